@@ -1,0 +1,13 @@
+use Rattle.std.proofs.Common.{◌≡◌, ◌≢◌, ◌≤◌, ◌++◌, ℕ, IsTrue, reverse}
+use Rattle.std.specs.Vec.Iter.{into_iter_items}
+use Rattle.hotexit.specs.Frame.{shown_text}
+use Rattle.hotexit.specs.Whole.{IsAfter}
+use Rattle.hotexit.proofs.steps.run_steps.Given as goal
+
+abbrev pub invariant-loop-step : goal.invariant-loop-step
+invariant-loop-step g l = record {
+  later : g.D.Disk.failures l.initial.disk ≤ g.D.Disk.failures l.disk;
+  others : (f : ℕ) → f ≢ l.file → g.D.Disk.reading l.disk f ≡ g.D.Disk.reading l.initial.disk f;
+  rest : l.fn.steps.items ≡ l.yielded ++ into_iter_items l.step-iterator;
+  after : IsTrue g.D.Disk.tells → IsAfter (shown_text (g.D.Disk.reading l.initial.disk l.file)) (reverse l.yielded) (g.D.Disk.reading l.disk l.file) l.session;
+}
