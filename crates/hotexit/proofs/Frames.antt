@@ -5,7 +5,7 @@ use Rattle.std.proofs.lemmas.Nat.{from_be_bytes-to_be_bytes_8}
 use Rattle.std.proofs.lemmas.List.{take_at}
 use Rattle.std.proofs.lemmas.Bool.Decides.{nat_tests}
 use Rattle.hx_base.specs.Numbers.{u64_at}
-use Rattle.hx_disk.specs.Disk.{overlaid}
+use Rattle.hx_disk.specs.Overlay.{overlaid}
 use Rattle.hotexit.specs.Frame.{shown_text}
 
 le_true : (a b : ℕ) → a ≤ b → nat_le a b ≡ true

@@ -1,5 +1,5 @@
-ghost use Rattle.std.specs.Prelude.{◌≡◌, ◌≢◌, ◌≤◌, ◌+◌, ℕ, IsTrue, length, IfOk, OnOk, IsErrOf, Some, option_map, take, drop};
-ghost use Rattle.hx_faults.specs.Faults.{Rose};
+ghost use Rattle.std.specs.Prelude.{◌≡◌, ◌≢◌, ◌≤◌, ◌+◌, ℕ, IsTrue, [], MatchOption, length, IfOk, OnOk, IsErrOf, Some, option_map, take, drop};
+ghost use Rattle.hx_faults.specs.Faults.{Rose, HasCause};
 ghost use Rattle.hotexit.specs.Frame.{shown_text};
 ghost use Rattle.hotexit.specs.declared.frame.RunError.TheVariants.{DiskFault, NoMemory};
 
@@ -39,9 +39,9 @@ pub fn back_up<D: Disk>(
     file: FileNo,
     text: &[u8],
 ) -> Result<(), RunError>
-    ensures shown { IsTrue D.tells → OnOk result (shown_text (D.reading disk.new file) ≡ Some text.now) }
-    ensures others { (f : ℕ) → f ≢ file → D.reading disk.new f ≡ D.reading disk.old f }
-    ensures memory { IsErrOf result RunError.NoMemory → (f : ℕ) → D.reading disk.new f ≡ D.reading disk.old f }
+    ensures shown { IsTrue D.tells → OnOk result (shown_text (D.now disk.new file).reading ≡ Some text.now) }
+    ensures others { (f : ℕ) → f ≢ file → D.now disk.new f ≡ D.now disk.old f }
+    ensures memory { IsErrOf result RunError.NoMemory → (f : ℕ) → D.now disk.new f ≡ D.now disk.old f }
     ensures fault { IsErrOf result RunError.DiskFault → Rose (D.failures disk.old) (D.failures disk.new) }
     ensures later { D.failures disk.old ≤ D.failures disk.new }
 {
@@ -57,18 +57,30 @@ pub fn back_up<D: Disk>(
     Ok(())
 }
 
+/// The file's size, or none where it doesn't exist.
+fn size_of<D: Disk>(disk: &mut D, file: FileNo) -> Result<Option<u64>, DiskFailed>
+    ensures size { IsTrue D.tells → IfOk result (λ size. MatchOption size ((D.now disk.old file).reading ≡ []) (λ n. n ≡ length (D.now disk.old file).reading)) }
+    ensures same { (f : ℕ) → D.now disk.new f ≡ D.now disk.old f }
+    ensures cause { HasCause (D.failures disk.old) (D.failures disk.new) result }
+{
+    match disk.stat(file)? {
+        Some(stat) => Ok(Some(stat.size)),
+        None => Ok(None),
+    }
+}
+
 /// The text that the file shows.
 pub fn restore<D: Disk>(
     alloc: Global,
     disk: &mut D,
     file: FileNo,
 ) -> Result<Option<Vec<u8>>, RunError>
-    ensures shown { IsTrue D.tells → IfOk result (λ text. option_map (λ v. v.items) text ≡ shown_text (D.reading disk.old file)) }
-    ensures same { (f : ℕ) → D.reading disk.new f ≡ D.reading disk.old f }
+    ensures shown { IsTrue D.tells → IfOk result (λ text. option_map (λ v. v.items) text ≡ shown_text (D.now disk.old file).reading) }
+    ensures same { (f : ℕ) → D.now disk.new f ≡ D.now disk.old f }
     ensures fault { IsErrOf result RunError.DiskFault → Rose (D.failures disk.old) (D.failures disk.new) }
     ensures later { D.failures disk.old ≤ D.failures disk.new }
 {
-    let Some(size) = disk.size(file)? else {
+    let Some(size) = size_of(disk, file)? else {
         return Ok(None);
     };
     if size < 8 {
@@ -93,9 +105,9 @@ fn bytes_at<D: Disk>(
     at: u64,
     count: usize,
 ) -> Result<Vec<u8>, RunError>
-    requires { IsTrue D.tells → at + count ≤ length (D.reading disk.old file) }
-    ensures bytes { IsTrue D.tells → IfOk result (λ bytes. bytes.items ≡ take count (drop at (D.reading disk.old file))) }
-    ensures same { (f : ℕ) → D.reading disk.new f ≡ D.reading disk.old f }
+    requires { IsTrue D.tells → at + count ≤ length (D.now disk.old file).reading }
+    ensures bytes { IsTrue D.tells → IfOk result (λ bytes. bytes.items ≡ take count (drop at (D.now disk.old file).reading)) }
+    ensures same { (f : ℕ) → D.now disk.new f ≡ D.now disk.old f }
     ensures fault { IsErrOf result RunError.DiskFault → Rose (D.failures disk.old) (D.failures disk.new) }
     ensures later { D.failures disk.old ≤ D.failures disk.new }
 {

@@ -35,9 +35,9 @@ fn take_step<D: Disk>(
     session: &mut Session,
     step: Step,
 ) -> Result<(), RunError>
-    ensures after { IsTrue D.tells → (old : Option (List ℕ)) (lines : List Step) → IsAfter old lines (D.reading disk.old file) session.old → OnOk result (IsAfter old (step ∷ lines) (D.reading disk.new file) session.new) }
-    ensures others { (f : ℕ) → f ≢ file → D.reading disk.new f ≡ D.reading disk.old f }
-    ensures memory { IsErrOf result RunError.NoMemory → (f : ℕ) → D.reading disk.new f ≡ D.reading disk.old f }
+    ensures after { IsTrue D.tells → (old : Option (List ℕ)) (lines : List Step) → IsAfter old lines (D.now disk.old file).reading session.old → OnOk result (IsAfter old (step ∷ lines) (D.now disk.new file).reading session.new) }
+    ensures others { (f : ℕ) → f ≢ file → D.now disk.new f ≡ D.now disk.old f }
+    ensures memory { IsErrOf result RunError.NoMemory → (f : ℕ) → D.now disk.new f ≡ D.now disk.old f }
     ensures fault { IsErrOf result RunError.DiskFault → Rose (D.failures disk.old) (D.failures disk.new) }
     ensures later { D.failures disk.old ≤ D.failures disk.new }
 {
@@ -63,10 +63,10 @@ pub fn run_steps<D: Disk>(
     file: FileNo,
     steps: Vec<Step>,
 ) -> Result<Vec<u8>, RunError>
-    ensures printed { IsTrue D.tells → IfOk result (λ out. out.items ≡ printed (shown_text (D.reading disk.old file)) (reverse steps.items)) }
-    ensures kept { IsTrue D.tells → OnOk result (shown_text (D.reading disk.new file) ≡ kept (shown_text (D.reading disk.old file)) (reverse steps.items)) }
-    ensures halfway { IsTrue D.tells → IsErrOf result RunError.NoMemory → KeepsSome steps.items (D.reading disk.old file) (D.reading disk.new file) }
-    ensures others { (f : ℕ) → f ≢ file → D.reading disk.new f ≡ D.reading disk.old f }
+    ensures printed { IsTrue D.tells → IfOk result (λ out. out.items ≡ printed (shown_text (D.now disk.old file).reading) (reverse steps.items)) }
+    ensures kept { IsTrue D.tells → OnOk result (shown_text (D.now disk.new file).reading ≡ kept (shown_text (D.now disk.old file).reading) (reverse steps.items)) }
+    ensures halfway { IsTrue D.tells → IsErrOf result RunError.NoMemory → KeepsSome steps.items (D.now disk.old file).reading (D.now disk.new file).reading }
+    ensures others { (f : ℕ) → f ≢ file → D.now disk.new f ≡ D.now disk.old f }
     ensures fault { IsErrOf result RunError.DiskFault → Rose (D.failures disk.old) (D.failures disk.new) }
     ensures later { D.failures disk.old ≤ D.failures disk.new }
 {

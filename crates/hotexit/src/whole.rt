@@ -91,13 +91,13 @@ fn refused(line: u64, why: Why) -> End
 
 /// Takes the steps, and writes what they print.
 fn play<K: Sink, D: Disk>(alloc: Global, sink: &mut K, disk: &mut D, steps: Vec<Step>) -> End
-    ensures done { IsTrue K.tells → IsTrue D.tells → result ≡ End.Done → K.held sink.new ≡ K.held sink.old ++ printed (shown_text (D.reading disk.old 0)) (reverse steps.items) }
-    ensures front { IsTrue K.tells → IsTrue D.tells → result ≡ End.WriteFault → AddsFront (printed (shown_text (D.reading disk.old 0)) (reverse steps.items)) (K.held sink.old) (K.held sink.new) }
-    ensures kept { IsTrue D.tells → IsWritten result → shown_text (D.reading disk.new 0) ≡ kept (shown_text (D.reading disk.old 0)) (reverse steps.items) }
-    ensures halfway { IsTrue D.tells → result ≡ End.NoMemory → KeepsSome steps.items (D.reading disk.old 0) (D.reading disk.new 0) }
+    ensures done { IsTrue K.tells → IsTrue D.tells → result ≡ End.Done → K.held sink.new ≡ K.held sink.old ++ printed (shown_text (D.now disk.old 0).reading) (reverse steps.items) }
+    ensures front { IsTrue K.tells → IsTrue D.tells → result ≡ End.WriteFault → AddsFront (printed (shown_text (D.now disk.old 0).reading) (reverse steps.items)) (K.held sink.old) (K.held sink.new) }
+    ensures kept { IsTrue D.tells → IsWritten result → shown_text (D.now disk.new 0).reading ≡ kept (shown_text (D.now disk.old 0).reading) (reverse steps.items) }
+    ensures halfway { IsTrue D.tells → result ≡ End.NoMemory → KeepsSome steps.items (D.now disk.old 0).reading (D.now disk.new 0).reading }
     ensures ends { IsOfPlay result }
     ensures silent { IsSilent result → sink.new ≡ sink.old }
-    ensures others { (f : ℕ) → f ≢ 0 → D.reading disk.new f ≡ D.reading disk.old f }
+    ensures others { (f : ℕ) → f ≢ 0 → D.now disk.new f ≡ D.now disk.old f }
     ensures write_fault { result ≡ End.WriteFault → Rose (K.failures sink.old) (K.failures sink.new) }
     ensures open_fault { result ≡ End.OpenFault → Rose (D.failures disk.old) (D.failures disk.new) }
     ensures sink_later { K.failures sink.old ≤ K.failures sink.new }
@@ -138,13 +138,13 @@ pub fn top<S: Source, K: Sink, D: Disk>(
     ensures usage { (result.end ≡ End.Usage) ↔ (are_replay words.now ≡ false) }
     ensures unasked { result.end ≡ End.Usage → (source.new ≡ source.old) × (sink.new ≡ sink.old) }
     ensures bad_script { IsTrue S.tells → (line : ℕ) (why : Why) → result.end ≡ End.BadScript line why → verdict (S.left source.old) ≡ Refused line why }
-    ensures done { IsTrue S.tells → IsTrue K.tells → IsTrue D.tells → result.end ≡ End.Done → (out : List ℕ) × (K.held sink.new ≡ K.held sink.old ++ out) × Played (S.left source.old) (D.reading disk 0) (D.reading result.disk 0) out }
+    ensures done { IsTrue S.tells → IsTrue K.tells → IsTrue D.tells → result.end ≡ End.Done → (out : List ℕ) × (K.held sink.new ≡ K.held sink.old ++ out) × Played (S.left source.old) (D.now disk 0).reading (D.now result.disk 0).reading out }
     ensures read_to_end { IsTrue S.tells → IsOfScript result.end → (S.left source.new ≡ []) × IsScript (verdict (S.left source.old)) }
-    ensures front { IsTrue S.tells → IsTrue K.tells → IsTrue D.tells → result.end ≡ End.WriteFault → (out : List ℕ) × AddsFront out (K.held sink.old) (K.held sink.new) × Played (S.left source.old) (D.reading disk 0) (D.reading result.disk 0) out }
+    ensures front { IsTrue S.tells → IsTrue K.tells → IsTrue D.tells → result.end ≡ End.WriteFault → (out : List ℕ) × AddsFront out (K.held sink.old) (K.held sink.new) × Played (S.left source.old) (D.now disk 0).reading (D.now result.disk 0).reading out }
     ensures silent { IsSilent result.end → sink.new ≡ sink.old }
     ensures untouched { IsBeforeDisk result.end → result.disk ≡ disk }
-    ensures halfway { IsTrue S.tells → IsTrue D.tells → result.end ≡ End.NoMemory → (result.disk ≡ disk) ⊎ Halfway (S.left source.old) (D.reading disk 0) (D.reading result.disk 0) }
-    ensures others { (f : ℕ) → f ≢ 0 → D.reading result.disk f ≡ D.reading disk f }
+    ensures halfway { IsTrue S.tells → IsTrue D.tells → result.end ≡ End.NoMemory → (result.disk ≡ disk) ⊎ Halfway (S.left source.old) (D.now disk 0).reading (D.now result.disk 0).reading }
+    ensures others { (f : ℕ) → f ≢ 0 → D.now result.disk f ≡ D.now disk f }
 
     // Faults have their causes, and nothing else keeps a script from its end but memory.
     ensures read_fault { result.end ≡ End.ReadFault → Rose (S.failures source.old) (S.failures source.new) }

@@ -1,1 +1,5 @@
 pub mod Disk
+pub mod File
+pub mod Images
+pub mod Overlay
+pub mod Runs

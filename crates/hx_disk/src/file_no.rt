@@ -1,12 +1,13 @@
+ghost use Rattle.std.specs.Prelude.{◌≡◌, ℕ, ◌<◌};
+
 use std::marker::Model;
 
-/// The number of a file, below 384: slot files are 0 to 127, user files 128 to 383. Contracts see it as the number.
+/// The number of a file on a disk, from 0 to 383. Contracts see it as the number.
+/// The files 0 to 127 keep backups and the files 128 to 383 are those of the user: a rule of this project.
 #[derive(Clone, Copy, Debug, PartialEq, Eq)]
 pub struct FileNo(u32);
 
 impl Model for FileNo {
-    ghost use Rattle.std.specs.Prelude.{ℕ, ◌<◌};
-
     ghost Value = { ℕ };
 
     ghost view = { λ f. f.0 };
@@ -17,8 +18,7 @@ impl Model for FileNo {
 }
 
 impl FileNo {
-    ghost use Rattle.std.specs.Prelude.{◌≡◌, ◌<◌};
-
+    /// The file of this number.
     pub fn new(number: u32) -> FileNo
         requires { number < 384 }
         ensures { result ≡ number }
@@ -26,6 +26,7 @@ impl FileNo {
         FileNo(number)
     }
 
+    /// Its number, from 0 to 383.
     pub fn number(self) -> u32
         ensures value { result ≡ self }
         ensures known { result < 384 }

@@ -1,4 +1,4 @@
-//! A disk of numbered files, as the layers above see it.
+//! A disk of numbered files that can crash at any moment: what a read returns, and what a crash may leave.
 #![tactic(auto)]
 
 mod disk;

@@ -1,1 +1,4 @@
-mod FileLemmas
+mod Calls
+mod Crashes
+mod Records
+mod Steps

@@ -1,3 +1,10 @@
-pub mod Files
+pub mod Course
+pub mod Event
+pub mod Kept
+pub mod MemDisk
 pub mod Plan
+pub mod Record
+pub mod Replay
 pub mod Room
+pub mod Sound
+pub mod Stable

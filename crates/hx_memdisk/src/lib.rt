@@ -1,13 +1,17 @@
-//! A disk in memory, whose calls fail by a plan.
+//! A disk in memory, which keeps a record of its calls, fails as it is told to, and crashes as the model says.
 #![tactic(auto)]
 
+mod course;
+mod crashed;
+mod entry;
+mod files;
 mod kept;
 mod memdisk;
 mod overlay;
-mod plan;
+mod record;
 
+pub use course::Plan;
 pub use memdisk::MemDisk;
-pub use plan::Plan;
 
 #[cfg(test)]
 mod tests;

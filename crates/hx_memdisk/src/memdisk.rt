@@ -1,68 +1,126 @@
-ghost use Rattle.std.specs.Prelude.{◌≡◌, ◌≤◌, ℕ, true, [], vec_len, IfOk, OnOk};
-ghost use Rattle.hx_memdisk.specs.Files.{bytes_at};
-ghost use Rattle.hx_memdisk.specs.Room.{Takes};
+ghost use Rattle.std.specs.Prelude.{◌≡◌, ◌≤◌, ◌<◌, ◌+◌, ◌*◌, ℕ, Bool, true, false, length, take, slice_index_or, vec_len, vec_capacity, IfOk, OnOk};
+ghost use Rattle.hx_memdisk.specs.Kept.{IsAfter};
+ghost use Rattle.hx_memdisk.specs.Record.{events_of, HasRoom, NoCrashSince};
+ghost use Rattle.hx_memdisk.specs.Replay.{file_after, no_file, pick_of};
+ghost use Rattle.hx_memdisk.specs.Room.{FileTakes};
 ghost use Rattle.hx_memdisk.specs.declared.kept.Kept.{Kept};
 
+use crate::course::{Course, Plan};
+use crate::crashed::{all_crashed, all_stable};
+use crate::entry::Entry;
+use crate::files::{no_files, reserve_file};
 use crate::kept::Kept;
-use crate::overlay::overlay;
-use crate::plan::{Plan, fails_at};
+use crate::record::Record;
 use hx_disk::{Disk, DiskFailed, FileNo};
-use hx_faults::raised;
+use hx_etag::Stat;
 use std::alloc::{AllocError, Global};
 
-const FILES: usize = 384;
-
-/// A disk in memory. Its calls are numbered from 1, and those fail that its plan names: a failed write has written
-/// the first half of its bytes, and any other failed call nothing.
+/// A disk in memory. It keeps a record of its calls, and each file as a read finds it.
 #[derive(Drop)]
 pub struct MemDisk {
+    alloc: Global,
+    log: Record,
     files: Vec<Kept>,
+
+    /// How many calls had been recorded at the last crash, that one too.
+    crashed: usize,
     room_file: u32,
     room_end: u64,
     room_calls: u32,
-    plan: Plan,
-    calls: u64,
-    faults: u64,
+    course: Course,
     ghost every_file: { vec_len files ≡ 384 },
-    ghost takes: { Takes room_file room_end files.items },
+    ghost each_after: { (f : ℕ) (d : Kept) → f < 384 → IsAfter (events_of log) crashed f (slice_index_or files.items f d) },
+    ghost no_crash_since: { NoCrashSince crashed log },
+    ghost crashed_before: { crashed ≤ vec_len log.entries },
+    ghost log_room: { HasRoom room_calls (room_calls * room_end) log },
+    ghost file_takes: { FileTakes room_file room_end files.items },
 }
 
 impl MemDisk {
-    /// A disk on which no file exists.
+    ghost use Rattle.hx_memdisk.specs.MemDisk.{files_of, recorded, course_of, room_of};
+
+    /// A disk on which no file exists, all is synced and no fault has come. It has no room yet.
     pub fn new(alloc: Global, plan: Plan) -> Result<MemDisk, AllocError>
-        ensures files { IfOk result (λ disk. (f : ℕ) → ⟦<MemDisk as Disk>⟧.reading disk f ≡ []) }
-        ensures faults { IfOk result (λ disk. ⟦<MemDisk as Disk>⟧.failures disk ≡ 0) }
+        ensures files { IfOk result (λ disk. (f : ℕ) → files_of disk f ≡ no_file) }
+        ensures moment { IfOk result (λ disk. recorded disk ≡ 0) }
+        ensures room { IfOk result (λ disk. (room_of disk).calls ≡ 0) }
+        ensures course { IfOk result (λ disk. course_of disk ≡ record { plan = plan; calls = 0; writes = 0; faults = 0 }) }
     {
+        let files = no_files(alloc)?;
         Ok(MemDisk {
-            files: no_files(alloc)?,
+            alloc,
+            log: Record::new(alloc),
+            files,
+            crashed: 0,
             room_file: 0,
             room_end: 0,
             room_calls: 0,
-            plan,
-            calls: 0,
-            faults: 0,
+            course: Course {
+                plan,
+                calls: 0,
+                writes: 0,
+                faults: 0,
+            },
         })
     }
 
-    /// The bytes of a file.
+    /// What a read of the whole file finds.
     pub fn bytes(&self, file: FileNo) -> &[u8]
-        ensures { result.now ≡ ⟦<MemDisk as Disk>⟧.reading self.now file }
+        ensures { result.now ≡ (files_of self.now file).reading }
     {
         &self.files[file.number() as usize].bytes
     }
 }
 
 impl Disk for MemDisk {
+    ghost use Rattle.std.specs.Prelude.{◌↔◌, IsErr, OnErr, MatchResult, is_ok, drop, Some};
+    ghost use Rattle.std.proofs.lemmas.List.{take_all};
+    ghost use Rattle.std.proofs.Common.{ap, arith};
+    ghost use Rattle.hx_faults.specs.Faults.{HasCause};
+    ghost use Rattle.hx_disk.specs.Disk.{Elapses, ChangesOnly, ChangesNothing, UsesOneCall};
+    ghost use Rattle.hx_disk.specs.File.{Wrote, Tried, WasCut, TriedCut, Synced, SameContent, Crashed};
+    ghost use Rattle.hx_memdisk.specs.Course.{FailsNext, StartsAnew, next_mtime, called, wrote};
+    ghost use Rattle.hx_memdisk.specs.MemDisk.{files_of, past_of, recorded, course_of, faults_of, room_of};
+    ghost use Rattle.hx_memdisk.specs.Replay.{write_after, cut_after, sync_after, mtime_after, crash_after};
+    ghost use Rattle.hx_memdisk.specs.Sound.{file_sound, picked_image};
+
     ghost tells = { true };
 
-    ghost reading = { λ d f. bytes_at d.files.items f };
+    ghost now = { files_of };
 
-    ghost failures = { λ d. d.faults };
+    ghost past = { past_of };
 
-    ghost room = { λ d. record { file = d.room_file; end = d.room_end; calls = d.room_calls } };
+    ghost time = { recorded };
 
-    fn reserve(&mut self, file: FileNo, end: u64, calls: u32) -> Result<(), AllocError> {
+    ghost failures = { faults_of };
+
+    ghost room = { room_of };
+
+    ghost picked = { pick_of };
+
+    ghost present = { λ d f. ap (λ (l : _). file_after l f) (take_all (length (events_of d.log)) (events_of d.log) (Prim.omega arith)) };
+
+    ghost sound = { λ d t f told. file_sound f (take t (events_of d.log)) };
+
+    ghost pick_is_image = { λ pick file told sound. picked_image pick file sound };
+
+    fn reserve(&mut self, file: FileNo, end: u64, calls: u32) -> Result<(), AllocError>
+        ensures room { OnOk result (room_of self.new ≡ record { file = file; end = end; calls = calls }) }
+        ensures unchanged { ChangesNothing recorded past_of files_of self.old self.new }
+        ensures faults { faults_of self.new ≡ faults_of self.old }
+
+        // It has no number, and after want of memory there is the room from before.
+        ensures course { course_of self.new ≡ course_of self.old }
+        ensures room_err { OnErr result (room_of self.new ≡ room_of self.old) }
+    {
         let number = file.number();
+        let Some(bytes) = (calls as usize).checked_mul(end as usize) else {
+            return Err(AllocError);
+        };
+        match self.log.reserve(calls as usize, bytes) {
+            Ok(()) => {}
+            Err(error) => return Err(error),
+        }
         match reserve_file(&mut self.files, number as usize, end as usize) {
             Ok(()) => {}
             Err(error) => return Err(error),
@@ -73,20 +131,35 @@ impl Disk for MemDisk {
         Ok(())
     }
 
-    fn size(&mut self, file: FileNo) -> Result<Option<u64>, DiskFailed> {
-        self.calls = self.calls.saturating_add(1);
-        if fails_at(&self.plan.fails, self.plan.fuse, self.calls) {
-            self.faults = raised(self.faults);
+    fn stat(&mut self, file: FileNo) -> Result<Option<Stat>, DiskFailed>
+        ensures stat { IfOk result (λ s. s ≡ (files_of self.old file).stat) }
+        ensures unchanged { ChangesNothing recorded past_of files_of self.old self.new }
+        ensures room { room_of self.new ≡ room_of self.old }
+        ensures cause { HasCause (faults_of self.old) (faults_of self.new) result }
+
+        // It fails where the plan says so. It has a number.
+        ensures planned { IsErr result ↔ FailsNext (course_of self.old) }
+        ensures course { course_of self.new ≡ called (is_ok result) (course_of self.old) }
+    {
+        if !self.course.call() {
             return Err(DiskFailed);
         }
-        let kept = &self.files[file.number() as usize];
-        Ok(kept.exists.then_some(kept.bytes.len() as u64))
+        Ok(self.files[file.number() as usize].stat())
     }
 
-    fn read(&mut self, file: FileNo, at: u64, into: &mut [u8]) -> Result<(), DiskFailed> {
-        self.calls = self.calls.saturating_add(1);
-        if fails_at(&self.plan.fails, self.plan.fuse, self.calls) {
-            self.faults = raised(self.faults);
+    fn read(&mut self, file: FileNo, at: u64, into: &mut [u8]) -> Result<(), DiskFailed>
+        requires { at + length into.old ≤ length (files_of self.old file).reading }
+        ensures bytes { OnOk result (into.new ≡ take (length into.old) (drop at (files_of self.old file).reading)) }
+        ensures unchanged { ChangesNothing recorded past_of files_of self.old self.new }
+        ensures room { room_of self.new ≡ room_of self.old }
+        ensures cause { HasCause (faults_of self.old) (faults_of self.new) result }
+
+        // It fails where the plan says so, and has then filled nothing. It has a number.
+        ensures planned { IsErr result ↔ FailsNext (course_of self.old) }
+        ensures course { course_of self.new ≡ called (is_ok result) (course_of self.old) }
+        ensures failed { OnErr result (into.new ≡ into.old) }
+    {
+        if !self.course.call() {
             return Err(DiskFailed);
         }
         let from = at as usize;
@@ -95,81 +168,157 @@ impl Disk for MemDisk {
         Ok(())
     }
 
-    fn write_at(&mut self, file: FileNo, at: u64, bytes: &[u8]) -> Result<(), DiskFailed> {
-        self.calls = self.calls.saturating_add(1);
+    fn write_at(&mut self, file: FileNo, at: u64, bytes: &[u8]) -> Result<(), DiskFailed>
+        requires within { at ≤ length (files_of self.old file).reading }
+        requires room_file { (room_of self.old).file ≡ file }
+        requires room_end { at + length bytes.now ≤ (room_of self.old).end }
+        requires room_calls { 0 < (room_of self.old).calls }
+        ensures ok { OnOk result (Wrote at bytes.now (files_of self.old file) (files_of self.new file)) }
+        ensures err { OnErr result (Tried at (length bytes.now) (files_of self.old file) (files_of self.new file)) }
+        ensures only { ChangesOnly recorded past_of files_of file self.old self.new }
+        ensures room { UsesOneCall (room_of self.old) (room_of self.new) }
+        ensures cause { HasCause (faults_of self.old) (faults_of self.new) result }
+
+        // It fails where the plan says so, has then written its first half, and is recorded either way.
+        ensures planned { IsErr result ↔ FailsNext (course_of self.old) }
+        ensures course { course_of self.new ≡ wrote (is_ok result) (course_of self.old) }
+        ensures file { files_of self.new file ≡ write_after at bytes.now (is_ok result) (next_mtime (course_of self.old)) (files_of self.old file) }
+        ensures moment { recorded self.new ≡ recorded self.old + 1 }
+    {
+        let mtime = self.course.next_mtime();
+        let ok = self.course.call();
+        let number = file.number();
+        self.files[number as usize].write(at as usize, bytes, ok, mtime);
+        self.log.push_write(number, at, bytes, ok, mtime);
         self.room_calls -= 1;
-        let ok = !fails_at(&self.plan.fails, self.plan.fuse, self.calls);
-        let written = if ok { bytes } else { &bytes[..bytes.len() / 2] };
-        write(
-            &mut self.files[file.number() as usize],
-            at as usize,
-            written,
-            ok,
-        );
         if ok {
+            self.course.count_write();
             Ok(())
         } else {
-            self.faults = raised(self.faults);
             Err(DiskFailed)
         }
     }
 
-    fn sync(&mut self, _file: FileNo) -> Result<(), DiskFailed> {
-        self.calls = self.calls.saturating_add(1);
+    fn cut(&mut self, file: FileNo, len: u64) -> Result<(), DiskFailed>
+        requires within { len ≤ length (files_of self.old file).reading }
+        requires room_file { (room_of self.old).file ≡ file }
+        requires room_calls { 0 < (room_of self.old).calls }
+        ensures ok { OnOk result (WasCut len (files_of self.old file) (files_of self.new file)) }
+        ensures err { OnErr result (TriedCut len (files_of self.old file) (files_of self.new file)) }
+        ensures only { ChangesOnly recorded past_of files_of file self.old self.new }
+        ensures room { UsesOneCall (room_of self.old) (room_of self.new) }
+        ensures cause { HasCause (faults_of self.old) (faults_of self.new) result }
+
+        // It fails where the plan says so, has then changed nothing that is read, and is recorded either way.
+        ensures planned { IsErr result ↔ FailsNext (course_of self.old) }
+        ensures course { course_of self.new ≡ wrote (is_ok result) (course_of self.old) }
+        ensures file { files_of self.new file ≡ cut_after len (is_ok result) (next_mtime (course_of self.old)) (files_of self.old file) }
+        ensures moment { recorded self.new ≡ recorded self.old + 1 }
+    {
+        let mtime = self.course.next_mtime();
+        let ok = self.course.call();
+        let number = file.number();
+        self.files[number as usize].cut(len as usize, ok, mtime);
+        self.log.push(Entry::Cut {
+            file: number,
+            len,
+            ok,
+            mtime,
+        });
         self.room_calls -= 1;
-        if fails_at(&self.plan.fails, self.plan.fuse, self.calls) {
-            self.faults = raised(self.faults);
-            return Err(DiskFailed);
+        if ok {
+            self.course.count_write();
+            Ok(())
+        } else {
+            Err(DiskFailed)
         }
+    }
+
+    fn sync(&mut self, file: FileNo) -> Result<(), DiskFailed>
+        requires room_calls { 0 < (room_of self.old).calls }
+        ensures ok { OnOk result (Synced (files_of self.old file) (files_of self.new file)) }
+        ensures err { OnErr result (files_of self.new file ≡ files_of self.old file) }
+        ensures only { ChangesOnly recorded past_of files_of file self.old self.new }
+        ensures room { UsesOneCall (room_of self.old) (room_of self.new) }
+        ensures cause { HasCause (faults_of self.old) (faults_of self.new) result }
+
+        // It fails where the plan says so, and is recorded either way.
+        ensures planned { IsErr result ↔ FailsNext (course_of self.old) }
+        ensures course { course_of self.new ≡ called (is_ok result) (course_of self.old) }
+        ensures file { files_of self.new file ≡ sync_after (is_ok result) (files_of self.old file) }
+        ensures moment { recorded self.new ≡ recorded self.old + 1 }
+    {
+        let ok = self.course.call();
+        let number = file.number();
+        let recorded = self.log.len() + 1;
+        self.files[number as usize].sync(ok, recorded);
+        self.log.push(Entry::Sync { file: number, ok });
+        self.room_calls -= 1;
+        if ok { Ok(()) } else { Err(DiskFailed) }
+    }
+
+    fn set_mtime(&mut self, file: FileNo, mtime: u64) -> Result<(), DiskFailed>
+        requires room_file { (room_of self.old).file ≡ file }
+        requires room_calls { 0 < (room_of self.old).calls }
+        ensures content { SameContent (files_of self.old file) (files_of self.new file) }
+        ensures ok { OnOk result ((files_of self.new file).stat ≡ Some (record { mtime = mtime; size = length (files_of self.old file).reading })) }
+        ensures only { ChangesOnly recorded past_of files_of file self.old self.new }
+        ensures room { UsesOneCall (room_of self.old) (room_of self.new) }
+        ensures cause { HasCause (faults_of self.old) (faults_of self.new) result }
+
+        // It fails where the plan says so, has then changed nothing, and is recorded either way.
+        ensures planned { IsErr result ↔ FailsNext (course_of self.old) }
+        ensures course { course_of self.new ≡ called (is_ok result) (course_of self.old) }
+        ensures file { files_of self.new file ≡ mtime_after mtime (is_ok result) (files_of self.old file) }
+        ensures moment { recorded self.new ≡ recorded self.old + 1 }
+    {
+        let ok = self.course.call();
+        let number = file.number();
+        self.files[number as usize].set_mtime(ok, mtime);
+        self.log.push(Entry::SetMtime {
+            file: number,
+            mtime,
+            ok,
+        });
+        self.room_calls -= 1;
+        if ok { Ok(()) } else { Err(DiskFailed) }
+    }
+
+    fn crash(&mut self, pick: u64) -> Result<(), AllocError>
+        ensures ok { OnOk result ((f : ℕ) → Crashed (pick_of pick (files_of self.old f)) (files_of self.new f)) }
+        ensures err { OnErr result (ChangesNothing recorded past_of files_of self.old self.new) }
+        ensures time { Elapses recorded past_of self.old self.new }
+        ensures room { OnOk result ((room_of self.new).calls ≡ 0) }
+        ensures room_err { OnErr result (room_of self.new ≡ room_of self.old) }
+        ensures faults { faults_of self.new ≡ faults_of self.old }
+
+        // Existence, modification times and the count of writes stay. The plan is empty then, and it is recorded.
+        ensures files { OnOk result ((f : ℕ) → files_of self.new f ≡ crash_after pick (files_of self.old f)) }
+        ensures course { OnOk result (StartsAnew (course_of self.old) (course_of self.new)) }
+        ensures course_err { OnErr result (course_of self.new ≡ course_of self.old) }
+        ensures moment { OnOk result (recorded self.new ≡ recorded self.old + 1) }
+    {
+        let recorded = self.log.len() + 1;
+        let stable = all_stable(self.alloc, &self.log, &self.files, self.crashed)?;
+        let left = all_crashed(self.alloc, &self.files, &stable, pick, recorded)?;
+        match self.log.reserve(1, 0) {
+            Ok(()) => {}
+            Err(error) => return Err(error),
+        }
+        self.log.push(Entry::Crash { pick });
+        self.files = left;
+        self.crashed = recorded;
+        self.room_end = 0;
+        self.room_calls = 0;
+        self.course.start_anew();
         Ok(())
     }
 
+    fn moment(&self) -> u64 {
+        self.log.len() as u64
+    }
+
     fn faults(&self) -> u64 {
-        self.faults
+        self.course.faults
     }
-}
-
-ghost use Rattle.std.specs.Prelude.{◌<◌, ◌+◌, length, slice_index_or, vec_capacity};
-ghost use Rattle.hx_disk.specs.Disk.{overlaid};
-
-/// A file begins to exist with its first byte, or with a write that succeeds.
-fn write(file: &mut Kept, at: usize, bytes: &[u8], ok: bool)
-    requires within { at ≤ vec_len file.old.bytes }
-    requires room { at + length bytes.now ≤ vec_capacity file.old.bytes }
-    ensures bytes { file.new.bytes.items ≡ overlaid file.old.bytes.items at bytes.now }
-    ensures capacity { vec_capacity file.old.bytes ≤ vec_capacity file.new.bytes }
-{
-    overlay(&mut file.bytes, at, bytes);
-    if ok || !bytes.is_empty() {
-        file.exists = true;
-    }
-}
-
-fn reserve_file(files: &mut Vec<Kept>, number: usize, end: usize) -> Result<(), AllocError>
-    requires { number < vec_len files.old }
-    ensures len { vec_len files.new ≡ vec_len files.old }
-    ensures same { (f : ℕ) → bytes_at files.new.items f ≡ bytes_at files.old.items f }
-    ensures keeps { (f e : ℕ) → Takes f e files.old.items → Takes f e files.new.items }
-    ensures takes { OnOk result (Takes number end files.new.items) }
-{
-    let file = &mut files[number];
-    let have = file.bytes.len();
-    if have < end {
-        file.bytes.reserve(end - have)?;
-    }
-    Ok(())
-}
-
-fn no_files(alloc: Global) -> Result<Vec<Kept>, AllocError>
-    ensures len { IfOk result (λ files. vec_len files ≡ 384) }
-    ensures each { IfOk result (λ files. (f : ℕ) → bytes_at files.items f ≡ []) }
-{
-    let mut files = Vec::new(alloc);
-    for _ in 0..FILES {
-        files.push(Kept {
-            bytes: Vec::new(alloc),
-            exists: false,
-        })?;
-    }
-    Ok(files)
 }

@@ -7,4 +7,4 @@ pub returns-clause-shown : goal.returns-clause-shown
 returns-clause-shown g c = λ told.
     let small : length c.args.text.now < 2 ^ 64 = search rules in
     let head : c.deref.result.now ≡ to_be_bytes w64 (length c.args.text.now) = search rules in
-    written_shows (g.D.Disk.reading c.reserve.new.self c.args.file) _ _ c.deref.result.now c.args.text.now small head (c.in_ok-write_at.ensures.written told) (c.in_ok-sync.ensures.same c.args.file ∙ c.in_ok-write_at-2.ensures.written told)
+    written_shows (g.D.Disk.now c.reserve.new.self c.args.file).reading _ _ c.deref.result.now c.args.text.now small head (c.in_ok-write_at.ensures.ok told).reading ((c.in_ok-sync.ensures.ok told).reading ∙ (c.in_ok-write_at-2.ensures.ok told).reading)

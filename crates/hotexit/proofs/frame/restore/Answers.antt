@@ -1,4 +1,5 @@
 use Rattle.std.proofs.Common.{rules, arith, ap, sym, ◌≡◌, ◌∙◌, List, ℕ, length, take, drop, Some}
+use Rattle.hx_disk.specs.File.{FileState}
 use Rattle.hotexit.proofs.Frames.{no_size, size_of, short_shows, cut_shows, whole_shows, number_read}
 use Rattle.hotexit.proofs.frame.restore.Goals as goal
 
@@ -12,20 +13,20 @@ returns-then-size-lt8-clause-shown g c = λ told.
 
 pub returns-then-length-size-clause-shown : goal.returns-then-length-size-clause-shown
 returns-then-length-size-clause-shown g c = λ told.
-    let bytes = g.D.Disk.reading c.args.disk.now c.args.file in
+    let bytes = (g.D.Disk.now c.args.disk.now c.args.file).reading in
     let size = size_of _ _ bytes c.in-Some.is (c.in_ok-size.ensures.size told) in
     let long : length c.read.new.into ≡ 8 = search rules in
-    let head = c.in_ok-read.ensures.bytes told ∙ ap (take 8) (c.size.ensures.same c.args.file) in
+    let head = c.in_ok-read.ensures.bytes told ∙ ap (λ (f : FileState). take 8 f.reading) (c.size_of.ensures.same c.args.file) in
     let number = number_read _ bytes _ long head c.in-Some-read_u64.ensures in
     sym (cut_shows bytes _ number (omega (arith, size, c.if-length-size.true)))
 
 pub returns-clause-shown : goal.returns-clause-shown
 returns-clause-shown g c = λ told.
-    let bytes = g.D.Disk.reading c.args.disk.now c.args.file in
+    let bytes = (g.D.Disk.now c.args.disk.now c.args.file).reading in
     let size = size_of _ _ bytes c.in-Some.is (c.in_ok-size.ensures.size told) in
     let long : length c.read.new.into ≡ 8 = search rules in
-    let head = c.in_ok-read.ensures.bytes told ∙ ap (take 8) (c.size.ensures.same c.args.file) in
+    let head = c.in_ok-read.ensures.bytes told ∙ ap (λ (f : FileState). take 8 f.reading) (c.size_of.ensures.same c.args.file) in
     let number = number_read _ bytes _ long head c.in-Some-read_u64.ensures in
     let whole = whole_shows bytes _ number (omega (arith, size, c.if-size-lt8.false)) (omega (arith, size, c.if-length-size.false)) in
-    let text = c.in_ok-bytes_at.ensures.bytes told ∙ ap (λ (l : List ℕ). take c.in-Some-read_u64.length (drop 8 l)) (c.read.ensures.same c.args.file ∙ c.size.ensures.same c.args.file) in
+    let text = c.in_ok-bytes_at.ensures.bytes told ∙ ap (λ (f : FileState). take c.in-Some-read_u64.length (drop 8 f.reading)) (c.read.ensures.unchanged.same c.args.file ∙ c.size_of.ensures.same c.args.file) in
     ap Some text ∙ sym whole

@@ -7,7 +7,7 @@ use Rattle.hotexit.proofs.steps.run_steps.Given as goal
 abbrev pub invariant-loop-step : goal.invariant-loop-step
 invariant-loop-step g l = record {
   later : g.D.Disk.failures l.initial.disk ≤ g.D.Disk.failures l.disk;
-  others : (f : ℕ) → f ≢ l.file → g.D.Disk.reading l.disk f ≡ g.D.Disk.reading l.initial.disk f;
+  others : (f : ℕ) → f ≢ l.file → g.D.Disk.now l.disk f ≡ g.D.Disk.now l.initial.disk f;
   rest : l.fn.steps.items ≡ l.yielded ++ into_iter_items l.step-iterator;
-  after : IsTrue g.D.Disk.tells → IsAfter (shown_text (g.D.Disk.reading l.initial.disk l.file)) (reverse l.yielded) (g.D.Disk.reading l.disk l.file) l.session;
+  after : IsTrue g.D.Disk.tells → IsAfter (shown_text (g.D.Disk.now l.initial.disk l.file).reading) (reverse l.yielded) (g.D.Disk.now l.disk l.file).reading l.session;
 }

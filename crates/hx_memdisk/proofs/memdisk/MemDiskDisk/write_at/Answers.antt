@@ -1,21 +1,67 @@
-use Rattle.std.proofs.Common.{rules, ◌≡◌, ◌<◌, length, sym, ◌∙◌, ap, List, ℕ}
-use Rattle.hx_disk.specs.Disk.{overlaid}
-use Rattle.hx_memdisk.specs.Files.{bytes_at}
-use Rattle.hx_memdisk.proofs.FileLemmas.{bytes_of, bytes_set_same, bytes_set_other}
+use Rattle.std.proofs.Common.{rules, arith, ◌≡◌, ◌<◌, ℕ, length, true, false, sym, ◌∙◌, ap, take, []}
+use Rattle.hx_memdisk.proofs.Steps.{length_new, past_kept, others_same}
+use Rattle.hx_memdisk.proofs.Calls.{takes_set, room_less, room_less_none, each_write, state_write, wrote, tried}
+use Rattle.hx_memdisk.specs.Course.{next_mtime}
+use Rattle.hx_memdisk.specs.MemDisk.{files_of, course_of}
+use Rattle.hx_memdisk.specs.Replay.{write_after, cut_after, sync_after, mtime_after}
 use Rattle.hx_memdisk.proofs.memdisk.MemDiskDisk.write_at.Goals as goal
-use Rattle.hx_memdisk.proofs.memdisk.MemDiskDisk.write_at.Goals.{then-ok, else-ok}
 
-pub returns-then-ok-2-clause-written : goal.returns-then-ok-2-clause-written
-returns-then-ok-2-clause-written c = λ told.
-    let files = c.args.self.now.files.items in
-    let within : c.number.result < length files = search rules in
-    let all : c.if-ok.written.now ≡ c.args.bytes.now = elim c.if-ok.branch [ then-ok w ↦ search rules | else-ok w ↦ cc ] in
-    let old : c.index_mut.result.now.bytes.items ≡ bytes_at files c.args.file = bytes_of files c.number.result c.index_mut.result.now within c.index_mut.ensures.value ∙ ap (bytes_at files) c.number.ensures.value in
-    ap (bytes_at _) (sym c.number.ensures.value) ∙ bytes_set_same files c.number.result c.write.new.file within ∙ c.write.ensures.bytes
-    ∙ ap (λ (l : List ℕ). overlaid l c.args.at c.if-ok.written.now) old ∙ ap (λ (l : List ℕ). overlaid (bytes_at files c.args.file) c.args.at l) all
+pub invariant_of-self-clause-each_after : goal.invariant_of-self-clause-each_after
+invariant_of-self-clause-each_after c =
+    let within : c.number-number.result < length c.args.self.now.files.items = search rules in
+    each_write _ _ _ _ _ _ _ within c.number-number.ensures.known c.index_mut.ensures.value c.args.self.now.each_after _ _ _ _ c.push_write.ensures.events c.write.ensures.bytes c.write.ensures.stat c.write.ensures.synced c.write.ensures.base
 
-pub returns-then-ok-2-clause-others : goal.returns-then-ok-2-clause-others
-returns-then-ok-2-clause-others c = λ f apart. bytes_set_other c.args.self.now.files.items c.number.result f c.write.new.file (λ same. apart (same ∙ c.number.ensures.value))
+pub invariant_of-self-clause-file_takes : goal.invariant_of-self-clause-file_takes
+invariant_of-self-clause-file_takes c =
+    let within : c.number-number.result < length c.args.self.now.files.items = search rules in
+    takes_set _ _ _ _ _ _ within c.index_mut.ensures.value c.write.ensures.capacity c.args.self.now.file_takes
 
-pub returns-else-ok-2-clause-others : goal.returns-else-ok-2-clause-others
-returns-else-ok-2-clause-others c = λ f apart. bytes_set_other c.args.self.now.files.items c.number.result f c.write.new.file (λ same. apart (same ∙ c.number.ensures.value))
+pub invariant_of-self-clause-log_room : goal.invariant_of-self-clause-log_room
+invariant_of-self-clause-log_room c = c.push_write.ensures.keeps _ _ (room_less _ _ _ _ (omega arith) (omega arith) c.args.self.now.log_room)
+
+pub invariant_of-self-else-ok-clause-each_after : goal.invariant_of-self-else-ok-clause-each_after
+invariant_of-self-else-ok-clause-each_after c =
+    let within : c.number-number.result < length c.args.self.now.files.items = search rules in
+    each_write _ _ _ _ _ _ _ within c.number-number.ensures.known c.index_mut.ensures.value c.args.self.now.each_after _ _ _ _ c.push_write.ensures.events c.write.ensures.bytes c.write.ensures.stat c.write.ensures.synced c.write.ensures.base
+
+pub invariant_of-self-else-ok-clause-file_takes : goal.invariant_of-self-else-ok-clause-file_takes
+invariant_of-self-else-ok-clause-file_takes c =
+    let within : c.number-number.result < length c.args.self.now.files.items = search rules in
+    takes_set _ _ _ _ _ _ within c.index_mut.ensures.value c.write.ensures.capacity c.args.self.now.file_takes
+
+pub invariant_of-self-else-ok-clause-log_room : goal.invariant_of-self-else-ok-clause-log_room
+invariant_of-self-else-ok-clause-log_room c = c.push_write.ensures.keeps _ _ (room_less _ _ _ _ (omega arith) (omega arith) c.args.self.now.log_room)
+
+pub returns-then-ok-clause-file : goal.returns-then-ok-clause-file
+returns-then-ok-clause-file c = state_write _ _ _ _ _ _ _ _ c.number-number.ensures.value c.push_write.ensures.events ∙ ap (λ b. write_after c.args.at c.args.bytes.now b c.next_mtime-mtime.result (files_of c.args.self.now c.args.file)) c.if-ok.true ∙ ap (λ m. write_after c.args.at c.args.bytes.now true m (files_of c.args.self.now c.args.file)) c.next_mtime-mtime.ensures
+
+pub returns-then-ok-clause-only : goal.returns-then-ok-clause-only
+returns-then-ok-clause-only c =
+    let more = c.push_write.ensures.events in
+    record {
+      time = record { later = omega (arith, length_new _ _ _ more); by_one = omega (arith, length_new _ _ _ more); kept = past_kept _ _ _ more };
+      others = others_same _ _ _ more c.args.file (sym c.number-number.ensures.value);
+    }
+
+pub returns-else-ok-clause-file : goal.returns-else-ok-clause-file
+returns-else-ok-clause-file c = state_write _ _ _ _ _ _ _ _ c.number-number.ensures.value c.push_write.ensures.events ∙ ap (λ b. write_after c.args.at c.args.bytes.now b c.next_mtime-mtime.result (files_of c.args.self.now c.args.file)) c.if-ok.false ∙ ap (λ m. write_after c.args.at c.args.bytes.now false m (files_of c.args.self.now c.args.file)) c.next_mtime-mtime.ensures
+
+pub returns-else-ok-clause-only : goal.returns-else-ok-clause-only
+returns-else-ok-clause-only c =
+    let more = c.push_write.ensures.events in
+    record {
+      time = record { later = omega (arith, length_new _ _ _ more); by_one = omega (arith, length_new _ _ _ more); kept = past_kept _ _ _ more };
+      others = others_same _ _ _ more c.args.file (sym c.number-number.ensures.value);
+    }
+
+pub returns-then-ok-clause-ok : goal.returns-then-ok-clause-ok
+returns-then-ok-clause-ok c = wrote _ _ _ _ _ (state_write _ _ _ _ _ _ _ _ c.number-number.ensures.value c.push_write.ensures.events ∙ ap (λ b. write_after c.args.at c.args.bytes.now b c.next_mtime-mtime.result (files_of c.args.self.now c.args.file)) c.if-ok.true)
+
+pub returns-else-ok-clause-err : goal.returns-else-ok-clause-err
+returns-else-ok-clause-err c = tried _ _ _ _ _ _ (state_write _ _ _ _ _ _ _ _ c.number-number.ensures.value c.push_write.ensures.events)
+
+pub invariant_of-self-clause-no_crash_since : goal.invariant_of-self-clause-no_crash_since
+invariant_of-self-clause-no_crash_since c = c.push_write.ensures.crashes _ c.args.self.now.no_crash_since
+
+pub invariant_of-self-else-ok-clause-no_crash_since : goal.invariant_of-self-else-ok-clause-no_crash_since
+invariant_of-self-else-ok-clause-no_crash_since c = c.push_write.ensures.crashes _ c.args.self.now.no_crash_since

@@ -1,0 +1,156 @@
+-- What each recorded call makes of its file and of all files, as the clauses of the disk say it.
+use Rattle.std.proofs.Common.{◌≡◌, ◌≢◌, ◌<◌, ◌≤◌, ℕ, ◌+◌, ◌*◌, ◌-◌, Bool, true, false, List, [], ◌∷◌, ◌++◌, length, take, get_or, set, if◌then◌else◌, Option, Some, None, IsSome, refl, sym, ◌∙◌, ap, subst, arith, eqb, ⊎_elim, vec_len, vec_capacity}
+use Rattle.std.proofs.lemmas.List.{get_or-set_same, get_or-set_other, length-set}
+use Rattle.std.proofs.lemmas.Bool.Decides.{eqb_tells}
+use Rattle.hx_etag.specs.declared.stat.Stat.{Stat}
+use Rattle.hx_disk.specs.Disk.{Elapses, ChangesOnly}
+use Rattle.hx_disk.specs.File.{FileState, IsAtRest, Tried, Wrote, TriedCut, WasCut, Synced, SameContent, Crashed}
+use Rattle.hx_disk.specs.Overlay.{overlaid}
+use Rattle.hx_memdisk.specs.Event.{Event, Writes, Cuts, Syncs, SetsMtime, Crashes}
+use Rattle.hx_memdisk.specs.Kept.{IsAfter, HasLeft, stat_of}
+use Rattle.hx_memdisk.specs.Record.{HasRoom}
+use Rattle.hx_memdisk.specs.Room.{FileTakes}
+use Rattle.hx_memdisk.specs.Replay.{after, part_of, written_stat, write_after, cut_after, sync_after, mtime_after, crash_after, pick_of, pick_of_bytes, resized, no_file, replayed-nil, file_after}
+use Rattle.hx_memdisk.specs.declared.kept.Kept.{Kept}
+use Rattle.hx_memdisk.specs.declared.record.Record.{Record}
+use Rattle.hx_memdisk.proofs.Steps.{IsOn, after_write, after_cut, after_sync, after_mtime, after_crash, length_new, past_kept, now_after, others_same, own_after, synced_after, all_after}
+
+-- Time goes on by the one call, and no other file changes.
+pub elapses : (calls new : List Event) (call : Event) → new ≡ calls ++ call ∷ [] → Elapses length (λ (l : List Event) (t f : ℕ). file_after (take t l) f) calls new
+elapses calls new call more = record {
+  later = omega (arith, length_new calls new call more);
+  by_one = omega (arith, length_new calls new call more);
+  kept = past_kept calls new call more;
+}
+
+-- the file after the call
+pub state_write : (calls new : List Event) (file number at mtime : ℕ) (bytes : List ℕ) (ok : Bool) → number ≡ file → new ≡ calls ++ Writes number at bytes ok mtime ∷ []
+    → file_after new file ≡ write_after at bytes ok mtime (file_after calls file)
+state_write calls new file number at mtime bytes ok on more = now_after calls new (Writes number at bytes ok mtime) more file ∙ after_write file number at mtime bytes ok (file_after calls file) (sym on)
+
+pub state_cut : (calls new : List Event) (file number len mtime : ℕ) (ok : Bool) → number ≡ file → new ≡ calls ++ Cuts number len ok mtime ∷ []
+    → file_after new file ≡ cut_after len ok mtime (file_after calls file)
+state_cut calls new file number len mtime ok on more = now_after calls new (Cuts number len ok mtime) more file ∙ after_cut file number len mtime ok (file_after calls file) (sym on)
+
+pub state_sync : (calls new : List Event) (file number : ℕ) (ok : Bool) → number ≡ file → new ≡ calls ++ Syncs number ok ∷ [] → file_after new file ≡ sync_after ok (file_after calls file)
+state_sync calls new file number ok on more = now_after calls new (Syncs number ok) more file ∙ after_sync file number ok (file_after calls file) (sym on)
+
+pub state_mtime : (calls new : List Event) (file number mtime : ℕ) (ok : Bool) → number ≡ file → new ≡ calls ++ SetsMtime number mtime ok ∷ [] → file_after new file ≡ mtime_after mtime ok (file_after calls file)
+state_mtime calls new file number mtime ok on more = now_after calls new (SetsMtime number mtime ok) more file ∙ after_mtime file number mtime ok (file_after calls file) (sym on)
+
+pub state_crash : (calls new : List Event) (pick : ℕ) → new ≡ calls ++ Crashes pick ∷ [] → (f : ℕ) → file_after new f ≡ crash_after pick (file_after calls f)
+state_crash calls new pick more f = now_after calls new (Crashes pick) more f ∙ after_crash f pick (file_after calls f)
+
+-- such a state is as the disk model says of the call
+pub tried : (at : ℕ) (bytes : List ℕ) (ok : Bool) (mtime : ℕ) (s new : FileState) → new ≡ write_after at bytes ok mtime s → Tried at (length bytes) s new
+tried at bytes ok mtime s new is = subst (λ (n : FileState). Tried at (length bytes) s n) (sym is) (record { stable = refl; written = refl; least = refl; greatest = refl })
+
+pub wrote : (at : ℕ) (bytes : List ℕ) (mtime : ℕ) (s new : FileState) → new ≡ write_after at bytes true mtime s → Wrote at bytes s new
+wrote at bytes mtime s new is = record { tried = tried at bytes true mtime s new is; reading = ap (λ (n : FileState). n.reading) is; exists = subst (λ (n : FileState). IsSome n.stat) (sym is) refl }
+
+pub tried_cut : (len : ℕ) (ok : Bool) (mtime : ℕ) (s new : FileState) → new ≡ cut_after len ok mtime s → TriedCut len s new
+tried_cut len ok mtime s new is = subst (λ (n : FileState). TriedCut len s n) (sym is) (record { stable = refl; written = refl; least = refl; greatest = refl })
+
+pub was_cut : (len mtime : ℕ) (s new : FileState) → new ≡ cut_after len true mtime s → WasCut len s new
+was_cut len mtime s new is = record { tried = tried_cut len true mtime s new is; reading = ap (λ (n : FileState). n.reading) is; exists = subst (λ (n : FileState). IsSome n.stat) (sym is) refl }
+
+pub synced : (s new : FileState) → new ≡ sync_after true s → Synced s new
+synced s new is = subst (λ (n : FileState). Synced s n) (sym is) (record { reading = refl; stat = refl; rest = record { stable = refl; written = refl; least = refl; greatest = refl } })
+
+same_after : (mtime : ℕ) (ok : Bool) (s : FileState) → SameContent s (mtime_after mtime ok s)
+same_after mtime true s = record { reading = refl; stable = refl; written = refl; least = refl; greatest = refl }
+same_after mtime false s = record { reading = refl; stable = refl; written = refl; least = refl; greatest = refl }
+
+pub same_content : (mtime : ℕ) (ok : Bool) (s new : FileState) → new ≡ mtime_after mtime ok s → SameContent s new
+same_content mtime ok s new is = subst (λ (n : FileState). SameContent s n) (sym is) (same_after mtime ok s)
+
+pub crashed : (pick : ℕ) (s new : FileState) → new ≡ crash_after pick s → Crashed (pick_of pick s) new
+crashed pick s new is = subst (λ (n : FileState). Crashed (pick_of pick s) n) (sym is) (record { reading = refl; rest = record { stable = refl; written = refl; least = refl; greatest = refl } })
+
+-- the files after the call
+module _ (calls new : List Event) (crashed number : ℕ) (files : List Kept) (elem kept : Kept) (within : number < length files) (known : number < 384) (value : elem ≡ get_or files number elem)
+    (before : (f : ℕ) (d : Kept) → f < 384 → IsAfter calls crashed f (get_or files f d)) where
+  was : IsAfter calls crashed number elem
+  was = subst (λ (k : Kept). IsAfter calls crashed number k) (sym value) (before number elem known)
+
+  pub each_write : (at mtime : ℕ) (bytes : List ℕ) (ok : Bool) → new ≡ calls ++ Writes number at bytes ok mtime ∷ [] → kept.bytes.items ≡ overlaid elem.bytes.items at (part_of bytes ok)
+      → stat_of kept ≡ written_stat ok (length (part_of bytes ok)) mtime (stat_of elem) (length kept.bytes.items) → kept.synced ≡ elem.synced → kept.base.items ≡ elem.base.items
+      → (f : ℕ) (d : Kept) → f < 384 → IsAfter new crashed f (get_or (set files number kept) f d)
+  each_write at mtime bytes ok more items stat synced base =
+      let s : FileState = file_after calls number in
+      let reading : kept.bytes.items ≡ overlaid s.reading at (part_of bytes ok) = items ∙ ap (λ (l : List ℕ). overlaid l at (part_of bytes ok)) was.reading in
+      let size = ap (λ (o : Option Stat). written_stat ok (length (part_of bytes ok)) mtime o (length kept.bytes.items)) was.stat ∙ ap (λ (l : List ℕ). written_stat ok (length (part_of bytes ok)) mtime s.stat (length l)) reading in
+      all_after calls new (Writes number at bytes ok mtime) more crashed number files kept refl within
+      (own_after calls new (Writes number at bytes ok mtime) more crashed number elem kept (write_after at bytes ok mtime s) was (after_write number number at mtime bytes ok s refl) reading (stat ∙ size) synced base refl) before
+
+  cut_same : (len : ℕ) (ok : Bool) (mtime : ℕ) (s : FileState) → kept.bytes.items ≡ (if ok then take len s.reading else s.reading) → stat_of kept ≡ (if ok then Some (record { mtime = mtime; size = length kept.bytes.items }) else s.stat)
+      → stat_of kept ≡ (cut_after len ok mtime s).stat
+  cut_same len true mtime s items stat = stat ∙ ap (λ (l : List ℕ). Some (record { mtime = mtime; size = length l })) items
+  cut_same len false mtime s items stat = stat
+
+  pub each_cut : (len mtime : ℕ) (ok : Bool) → new ≡ calls ++ Cuts number len ok mtime ∷ [] → kept.bytes.items ≡ (if ok then take len elem.bytes.items else elem.bytes.items)
+      → stat_of kept ≡ (if ok then Some (record { mtime = mtime; size = length kept.bytes.items }) else stat_of elem) → kept.synced ≡ elem.synced → kept.base.items ≡ elem.base.items
+      → (f : ℕ) (d : Kept) → f < 384 → IsAfter new crashed f (get_or (set files number kept) f d)
+  each_cut len mtime ok more items stat synced base =
+      let s : FileState = file_after calls number in
+      let reading : kept.bytes.items ≡ (if ok then take len s.reading else s.reading) = items ∙ ap (λ (l : List ℕ). if ok then take len l else l) was.reading in
+      let size = cut_same len ok mtime s reading (stat ∙ ap (λ (o : Option Stat). if ok then Some (record { mtime = mtime; size = length kept.bytes.items }) else o) was.stat) in
+      all_after calls new (Cuts number len ok mtime) more crashed number files kept refl within
+      (own_after calls new (Cuts number len ok mtime) more crashed number elem kept (cut_after len ok mtime s) was (after_cut number number len mtime ok s refl) reading size synced base refl) before
+
+  pub each_mtime : (mtime : ℕ) (ok : Bool) → new ≡ calls ++ SetsMtime number mtime ok ∷ [] → kept.bytes.items ≡ elem.bytes.items
+      → stat_of kept ≡ (if ok then Some (record { mtime = mtime; size = length elem.bytes.items }) else stat_of elem) → kept.synced ≡ elem.synced → kept.base.items ≡ elem.base.items
+      → (f : ℕ) (d : Kept) → f < 384 → IsAfter new crashed f (get_or (set files number kept) f d)
+  each_mtime mtime ok more items stat synced base =
+      let s : FileState = file_after calls number in
+      all_after calls new (SetsMtime number mtime ok) more crashed number files kept refl within
+      (own_after calls new (SetsMtime number mtime ok) more crashed number elem kept (mtime_after mtime ok s) was (after_mtime number number mtime ok s refl) (reading ok) (size ok stat) synced base (stable ok)) before
+    where
+      reading : (b : Bool) → kept.bytes.items ≡ (mtime_after mtime b (file_after calls number)).reading
+      reading true = items ∙ was.reading
+      reading false = items ∙ was.reading
+
+      size : (b : Bool) → stat_of kept ≡ (if b then Some (record { mtime = mtime; size = length elem.bytes.items }) else stat_of elem) → stat_of kept ≡ (mtime_after mtime b (file_after calls number)).stat
+      size true is = is ∙ ap (λ (l : List ℕ). Some (record { mtime = mtime; size = length l })) was.reading
+      size false is = is ∙ was.stat
+
+      stable : (b : Bool) → (mtime_after mtime b (file_after calls number)).stable ≡ (file_after calls number).stable
+      stable true = refl
+      stable false = refl
+
+  pub each_sync : (ok : Bool) (recorded : ℕ) → new ≡ calls ++ Syncs number ok ∷ [] → recorded ≡ length new → kept.bytes.items ≡ elem.bytes.items → stat_of kept ≡ stat_of elem
+      → kept.synced ≡ (if ok then recorded else elem.synced) → kept.base.items ≡ elem.base.items
+      → (f : ℕ) (d : Kept) → f < 384 → IsAfter new crashed f (get_or (set files number kept) f d)
+  each_sync true recorded more all items stat synced base =
+      let s : FileState = file_after calls number in
+      all_after calls new (Syncs number true) more crashed number files kept refl within
+      (synced_after calls new (Syncs number true) more crashed number elem kept (sync_after true s) was (after_sync number number true s refl) (items ∙ was.reading) (stat ∙ was.stat) (synced ∙ all) base refl) before
+  each_sync false recorded more all items stat synced base =
+      let s : FileState = file_after calls number in
+      all_after calls new (Syncs number false) more crashed number files kept refl within
+      (own_after calls new (Syncs number false) more crashed number elem kept (sync_after false s) was (after_sync number number false s refl) (items ∙ was.reading) (stat ∙ was.stat) synced base refl) before
+
+-- a file keeps its room
+pub takes_set : (file end number : ℕ) (files : List Kept) (elem kept : Kept) → number < length files → elem ≡ get_or files number elem → vec_capacity elem.bytes ≤ vec_capacity kept.bytes → FileTakes file end files → FileTakes file end (set files number kept)
+takes_set file end number files elem kept within value grown takes d inside = ⊎_elim
+    (λ (same : (eqb file number ≡ true) × (file ≡ number)).
+    let place : get_or (set files number kept) file d ≡ kept = ap (λ n. get_or (set files number kept) n d) same.1 ∙ get_or-set_same files number kept d within in
+    let had : end ≤ vec_capacity elem.bytes = subst (λ (k : Kept). end ≤ vec_capacity k.bytes) (ap (λ n. get_or files n elem) same.1 ∙ sym value) (takes elem (omega (arith, same.1, within))) in
+    subst (λ (k : Kept). end ≤ vec_capacity k.bytes) (sym place) (omega (arith, had, grown)))
+    (λ (other : (eqb file number ≡ false) × (file ≢ number)).
+    subst (λ (k : Kept). end ≤ vec_capacity k.bytes) (sym (get_or-set_other files number file kept d other.1)) (takes d (omega (arith, inside, length-set {A = Kept} files number kept))))
+    (eqb_tells file number)
+
+product_less : (k calls end n : ℕ) → calls ≡ k + 1 → n ≤ end → k * end + n ≤ calls * end
+product_less k calls end n one most = omega (arith, ap (λ c. c * end) one)
+
+-- one call less, which was handed at most so many bytes
+pub room_less : (calls end n : ℕ) (r : Record) → 0 < calls → n ≤ end → HasRoom calls (calls * end) r → HasRoom (calls - 1 + 1) ((calls - 1) * end + n) r
+room_less calls end n r some most room =
+    let less : (calls - 1) * end + n ≤ calls * end = product_less (calls - 1) calls end n (omega arith) most in
+    record { entries = omega (arith, room.entries, some); bytes = omega (arith, room.bytes, less) }
+
+pub room_less_none : (calls end : ℕ) (r : Record) → 0 < calls → HasRoom calls (calls * end) r → HasRoom (calls - 1 + 1) ((calls - 1) * end) r
+room_less_none calls end r some room =
+    let less = room_less calls end 0 r some (omega arith) room in
+    record { entries = less.entries; bytes = omega (arith, less.bytes) }
