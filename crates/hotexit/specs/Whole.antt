@@ -1,7 +1,8 @@
 -- What a whole run has done.
-use Rattle.std.specs.Prelude.{◌≡◌, ℕ, Bool, false, bytes_eq, List, [], ◌∷◌, ◌++◌, reverse, codes, string_bytes, String, Option}
+use Rattle.std.specs.Prelude.{◌≡◌, ◌⊎◌, ℕ, Bool, false, bytes_eq, List, [], ◌∷◌, ◌++◌, reverse, codes, string_bytes, String, Option}
 use Rattle.std.specs.declared.alloc.Global.{Global}
 use Rattle.hotexit.specs.declared.script.Step.{Step}
+use Rattle.hotexit.specs.declared.script.Step.TheVariants.{Backup}
 use Rattle.hotexit.specs.declared.session.Session.{Session}
 use Rattle.hotexit.specs.declared.whole.End.{End}
 use Rattle.hotexit.specs.declared.whole.End.TheVariants.{Done, Usage, BadScript, ReadFault, WriteFault, NoMemory, OpenFault}
@@ -33,6 +34,20 @@ pub record KeepsSome (steps : List Step) (old new : List ℕ) : Type 0 where
   pub rest : List Step
   pub all : steps ≡ done ++ rest
   pub kept : shown_text new ≡ kept (shown_text old) (reverse done)
+
+-- At one of these lines a call of the disk failed. Where it isn't a backup, the file shows what the lines before it keep.
+pub record StopsAt (steps : List Step) (old new : List ℕ) : Type 0 where
+  pub done : List Step
+  pub step : Step
+  pub rest : List Step
+  pub all : steps ≡ done ++ step ∷ rest
+  pub kept : (step ≡ Backup) ⊎ (shown_text new ≡ kept (shown_text old) (reverse done))
+
+-- the bytes of the source are a script, and it stopped at one of its lines
+pub record Stopped (script old new : List ℕ) : Type 0 where
+  pub steps : List Step
+  pub reads : verdict script ≡ Script steps
+  pub at : StopsAt steps old new
 
 -- the bytes of the source are a script, and the file shows what its first lines keep
 pub record Halfway (script old new : List ℕ) : Type 0 where

@@ -1,8 +1,8 @@
-ghost use Rattle.std.specs.Prelude.{◌≡◌, ◌≢◌, ◌≤◌, ◌++◌, ◌∷◌, IsTrue, List, ℕ, Option, option_map, reverse, IfOk, OnOk, IsErrOf};
+ghost use Rattle.std.specs.Prelude.{◌≡◌, ◌≢◌, ◌≤◌, ◌⊎◌, ◌++◌, ◌∷◌, IsTrue, List, ℕ, Option, option_map, reverse, IfOk, OnOk, IsErrOf};
 ghost use Rattle.hx_faults.specs.Faults.{Rose};
 ghost use Rattle.hotexit.specs.Frame.{shown_text};
 ghost use Rattle.hotexit.specs.Meaning.{line_of, printed, kept};
-ghost use Rattle.hotexit.specs.Whole.{IsAfter, KeepsSome};
+ghost use Rattle.hotexit.specs.Whole.{IsAfter, KeepsSome, StopsAt};
 ghost use Rattle.hotexit.specs.declared.script.Step.{Step};
 
 use crate::frame::{RunError, back_up, restore};
@@ -38,6 +38,7 @@ fn take_step<D: Disk>(
     ensures after { IsTrue D.tells → (old : Option (List ℕ)) (lines : List Step) → IsAfter old lines (D.now disk.old file).reading session.old → OnOk result (IsAfter old (step ∷ lines) (D.now disk.new file).reading session.new) }
     ensures others { (f : ℕ) → f ≢ file → D.now disk.new f ≡ D.now disk.old f }
     ensures memory { IsErrOf result RunError.NoMemory → (f : ℕ) → D.now disk.new f ≡ D.now disk.old f }
+    ensures untouched { IsErrOf result RunError.DiskFault → (step ≡ Step.Backup) ⊎ ((f : ℕ) → D.now disk.new f ≡ D.now disk.old f) }
     ensures fault { IsErrOf result RunError.DiskFault → Rose (D.failures disk.old) (D.failures disk.new) }
     ensures later { D.failures disk.old ≤ D.failures disk.new }
 {
@@ -66,6 +67,7 @@ pub fn run_steps<D: Disk>(
     ensures printed { IsTrue D.tells → IfOk result (λ out. out.items ≡ printed (shown_text (D.now disk.old file).reading) (reverse steps.items)) }
     ensures kept { IsTrue D.tells → OnOk result (shown_text (D.now disk.new file).reading ≡ kept (shown_text (D.now disk.old file).reading) (reverse steps.items)) }
     ensures halfway { IsTrue D.tells → IsErrOf result RunError.NoMemory → KeepsSome steps.items (D.now disk.old file).reading (D.now disk.new file).reading }
+    ensures stopped { IsTrue D.tells → IsErrOf result RunError.DiskFault → StopsAt steps.items (D.now disk.old file).reading (D.now disk.new file).reading }
     ensures others { (f : ℕ) → f ≢ file → D.now disk.new f ≡ D.now disk.old f }
     ensures fault { IsErrOf result RunError.DiskFault → Rose (D.failures disk.old) (D.failures disk.new) }
     ensures later { D.failures disk.old ≤ D.failures disk.new }

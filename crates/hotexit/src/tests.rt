@@ -1,3 +1,4 @@
+use crate::status;
 use crate::whole::{End, Finished, Why, top};
 use hx_disk::{Disk, FileNo};
 use hx_io::{MemSink, MemSource};
@@ -238,4 +239,21 @@ fn limits_are_the_last_that_pass(rt: HostRuntime) -> Result<(), Fail> {
         assert!(rt; run.end == end, "{count} times {line:?}");
     }
     Ok(())
+}
+
+#[test]
+fn each_end_has_its_status(rt: HostRuntime) {
+    let table = [
+        (End::Done, 0),
+        (End::Usage, 2),
+        (FORM, 3),
+        (HEADER, 3),
+        (End::ReadFault, 4),
+        (End::WriteFault, 5),
+        (End::NoMemory, 6),
+        (End::OpenFault, 7),
+    ];
+    for (end, code) in table {
+        assert_eq!(rt; status(end), code);
+    }
 }

@@ -4,7 +4,7 @@ ghost use Rattle.hx_io.specs.Streams.{AddsFront};
 ghost use Rattle.hotexit.specs.Frame.{shown_text};
 ghost use Rattle.hotexit.specs.Meaning.{printed, kept};
 ghost use Rattle.hotexit.specs.Script.{Verdict, Script, Refused, verdict};
-ghost use Rattle.hotexit.specs.Whole.{Played, Halfway, are_replay, IsSilent, IsBeforeDisk, IsOfScript, IsScript, IsDoneOrNoMemory, IsOfReading, IsOfPlay, IsWritten, KeepsSome};
+ghost use Rattle.hotexit.specs.Whole.{Played, Halfway, are_replay, IsSilent, IsBeforeDisk, IsOfScript, IsScript, IsDoneOrNoMemory, IsOfReading, IsOfPlay, IsWritten, KeepsSome, StopsAt, Stopped};
 ghost use Rattle.hotexit.specs.declared.whole.Why.{Why};
 
 use crate::frame::RunError;
@@ -95,6 +95,7 @@ fn play<K: Sink, D: Disk>(alloc: Global, sink: &mut K, disk: &mut D, steps: Vec<
     ensures front { IsTrue K.tells → IsTrue D.tells → result ≡ End.WriteFault → AddsFront (printed (shown_text (D.now disk.old 0).reading) (reverse steps.items)) (K.held sink.old) (K.held sink.new) }
     ensures kept { IsTrue D.tells → IsWritten result → shown_text (D.now disk.new 0).reading ≡ kept (shown_text (D.now disk.old 0).reading) (reverse steps.items) }
     ensures halfway { IsTrue D.tells → result ≡ End.NoMemory → KeepsSome steps.items (D.now disk.old 0).reading (D.now disk.new 0).reading }
+    ensures stopped { IsTrue D.tells → result ≡ End.OpenFault → StopsAt steps.items (D.now disk.old 0).reading (D.now disk.new 0).reading }
     ensures ends { IsOfPlay result }
     ensures silent { IsSilent result → sink.new ≡ sink.old }
     ensures others { (f : ℕ) → f ≢ 0 → D.now disk.new f ≡ D.now disk.old f }
@@ -144,6 +145,7 @@ pub fn top<S: Source, K: Sink, D: Disk>(
     ensures silent { IsSilent result.end → sink.new ≡ sink.old }
     ensures untouched { IsBeforeDisk result.end → result.disk ≡ disk }
     ensures halfway { IsTrue S.tells → IsTrue D.tells → result.end ≡ End.NoMemory → (result.disk ≡ disk) ⊎ Halfway (S.left source.old) (D.now disk 0).reading (D.now result.disk 0).reading }
+    ensures stopped { IsTrue S.tells → IsTrue D.tells → result.end ≡ End.OpenFault → Stopped (S.left source.old) (D.now disk 0).reading (D.now result.disk 0).reading }
     ensures others { (f : ℕ) → f ≢ 0 → D.now result.disk f ≡ D.now disk f }
 
     // Faults have their causes, and nothing else keeps a script from its end but memory.
