@@ -4,7 +4,7 @@ use Rattle.std.proofs.Common.{sym, ◌∙◌, ap, subst, inl, inr, ⊎_elim, ari
 use Rattle.std.proofs.lemmas.Bool.{cases_lt}
 use Rattle.std.proofs.lemmas.Bool.Decides.{eqb_tells}
 use Rattle.hx_disk.specs.File.{FileState, IsImage}
-use Rattle.hx_disk.specs.Disk.{ChangesOnly, ChangesNothing, Left, Through, ThroughAll}
+use Rattle.hx_disk.specs.Disk.{Elapses, ChangesOnly, ChangesNothing, Left, Through, ThroughAll}
 
 module _ {D : Type 0} (moment : D → ℕ) (past : D → ℕ → ℕ → FileState) (now : D → ℕ → FileState) (present : (d : D) (f : ℕ) → past d (moment d) f ≡ now d f) where
   -- before the first call
@@ -71,8 +71,8 @@ module _ {D : Type 0} (moment : D → ℕ) (past : D → ℕ → ℕ → FileSta
   others_now file P old new through f apart = sym (present new f) ∙ through.others (moment new) f apart through.later (omega arith) ∙ present old f
 
   -- A call at which the moment stood still has changed nothing.
-  pub still_same : (file : ℕ) (old new : D) → ChangesOnly moment past now file old new → moment new ≡ moment old → (f : ℕ) → now new f ≡ now old f
-  still_same file old new call still f = sym (present new f) ∙ ap (λ n. past new n f) still ∙ call.time.kept (moment old) f (omega arith) ∙ present old f
+  pub still_same : (old new : D) → Elapses moment past old new → moment new ≡ moment old → (f : ℕ) → now new f ≡ now old f
+  still_same old new call still f = sym (present new f) ∙ ap (λ n. past new n f) still ∙ call.kept (moment old) f (omega arith) ∙ present old f
 
   -- A run on one file, of which P says what held: of that file what the run says, of the others what held before.
   pub through_all : (file : ℕ) (Q : FileState → Type 0) (P : ℕ → FileState → Type 0) (old new : D) → Through moment past file Q old new → ((s : FileState) → Q s → P file s) → ((f : ℕ) → f ≢ file → P f (now old f)) → ThroughAll moment past P old new
@@ -84,6 +84,37 @@ module _ {D : Type 0} (moment : D → ℕ) (past : D → ℕ → ℕ → FileSta
         (λ apart. subst (P f) (sym (through.others t f apart.1 from to ∙ present old f)) (rest f apart.1))
         (eqb_tells f file);
   }
+
+  -- before the first call, of which P says what holds
+  pub all_started : (P : ℕ → FileState → Type 0) (d : D) → ((f : ℕ) → P f (now d f)) → ThroughAll moment past P d d
+  all_started P d here = record {
+    later = omega arith;
+    kept = λ t f le. refl;
+    each = λ t f from to. subst (P f) (sym (ap (λ n. past d n f) (omega (arith, from, to)) ∙ present d f)) (here f);
+  }
+
+  -- a call that changes nothing
+  pub all_rested : (P : ℕ → FileState → Type 0) (old mid new : D) → ThroughAll moment past P old mid → ChangesNothing moment past now mid new → ThroughAll moment past P old new
+  all_rested P old mid new so_far call = record {
+    later = omega (arith, so_far.later, call.still);
+    kept = λ t f le. call.kept t f (omega (arith, le, so_far.later)) ∙ so_far.kept t f le;
+    each = λ t f from to. subst (P f) (sym (call.kept t f (omega (arith, to, call.still)))) (so_far.each t f from (omega (arith, to, call.still)));
+  }
+
+  -- one call more, on whichever files, and so a crash
+  pub all_goes_on : (P : ℕ → FileState → Type 0) (old mid new : D) → ThroughAll moment past P old mid → Elapses moment past mid new → ((f : ℕ) → P f (now new f)) → ThroughAll moment past P old new
+  all_goes_on P old mid new so_far call here = record {
+    later = omega (arith, so_far.later, call.later);
+    kept = λ t f le. call.kept t f (omega (arith, le, so_far.later)) ∙ so_far.kept t f le;
+    each = λ t f from to. ⊎_elim
+        (λ after. subst (P f) (sym (ap (λ n. past new n f) (omega (arith, after, to, call.by_one)) ∙ present new f)) (here f))
+        (λ before. subst (P f) (sym (call.kept t f before)) (so_far.each t f from before))
+        (cases_lt (moment mid) t);
+  }
+
+  -- each file after the run
+  pub all_now : (P : ℕ → FileState → Type 0) (old new : D) → ThroughAll moment past P old new → (f : ℕ) → P f (now new f)
+  all_now P old new through f = subst (P f) (present new f) (through.each (moment new) f through.later (omega arith))
 
   -- a run behind a run, on whichever files
   pub all_joined : (P : ℕ → FileState → Type 0) (old mid new : D) → ThroughAll moment past P old mid → ThroughAll moment past P mid new → ThroughAll moment past P old new

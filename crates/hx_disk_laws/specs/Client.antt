@@ -1,6 +1,6 @@
 -- A file whose first byte is to be 0, whatever a crash leaves.
-use Rattle.std.specs.Prelude.{◌≡◌, ◌⊎◌, ◌<◌, ℕ, List, [], ◌∷◌, length, slice_index}
-use Rattle.hx_disk.specs.File.{FileState, IsImage, IsAtRest, Tried, Wrote}
+use Rattle.std.specs.Prelude.{◌≡◌, ◌⊎◌, ◌<◌, ℕ, List, length, slice_index}
+use Rattle.hx_disk.specs.File.{FileState, IsImage, Tried}
 
 -- Each image begins with the byte 0.
 abbrev pub IsShut : FileState → Type 0

@@ -1,12 +1,33 @@
-ghost use Rattle.std.specs.Prelude.{◌≡◌, ◌≤◌, ◌<◌, ℕ, ◌+◌, IsTrue, [], ◌∷◌, length, OnOk};
+ghost use Rattle.std.specs.Prelude.{◌≡◌, ◌≢◌, ◌≤◌, ◌<◌, ℕ, ◌+◌, IsTrue, List, length, OnOk};
 ghost use Rattle.hx_faults.specs.Faults.{HasCause};
-ghost use Rattle.hx_disk.specs.Disk.{Through};
-ghost use Rattle.hx_disk.specs.File.{IsSettled};
+ghost use Rattle.hx_disk.specs.Disk.{Through, Left};
+ghost use Rattle.hx_disk.specs.File.{IsImage};
 ghost use Rattle.hx_disk_laws.specs.Client.{IsShut, OnTheWay};
 
 use hx_disk::{Disk, DiskFailed, FileNo};
+use std::alloc::AllocError;
 
-/// Writes one byte 0 at the front of a file and brings it to the disk.
+/// Why two files could not be shut.
+#[derive(Clone, Copy, Debug, PartialEq, Eq)]
+pub enum ShutError {
+    DiskFailed,
+    NoMemory,
+}
+
+impl From<DiskFailed> for ShutError {
+    fn from(_: DiskFailed) -> ShutError {
+        ShutError::DiskFailed
+    }
+}
+
+impl From<AllocError> for ShutError {
+    fn from(_: AllocError) -> ShutError {
+        ShutError::NoMemory
+    }
+}
+
+/// Writes the byte 0 at the front of a file and brings it to the disk. After that every image begins with it, and until
+/// then each image is one from before, or has its first byte torn.
 pub fn shut<D: Disk>(disk: &mut D, file: FileNo) -> Result<(), DiskFailed>
     requires room_file { (D.room disk.old).file ≡ file }
     requires room_end { 1 ≤ (D.room disk.old).end }
@@ -18,4 +39,24 @@ pub fn shut<D: Disk>(disk: &mut D, file: FileNo) -> Result<(), DiskFailed>
 {
     disk.write_at(file, 0, &[0])?;
     disk.sync(file)
+}
+
+/// Shuts one file, and then another. A crash at any moment leaves of every further file what it could have left before.
+pub fn shut_both<D: Disk>(disk: &mut D, first: FileNo, second: FileNo) -> Result<(), ShutError>
+    ensures ok { IsTrue D.tells → OnOk result (IsShut (D.now disk.new first) × IsShut (D.now disk.new second)) }
+    ensures others { IsTrue D.tells → (image : ℕ → List ℕ) → Left (D.past disk.new) (D.time disk.old) (D.time disk.new) image → (f : ℕ) → f ≢ first → f ≢ second → IsImage (D.now disk.old f) (image f) }
+{
+    disk.reserve(first, 1, 2)?;
+    shut(disk, first)?;
+    disk.reserve(second, 1, 2)?;
+    shut(disk, second)?;
+    Ok(())
+}
+
+/// Crashes a disk. What is read then is an image of the whole disk at the moment of the crash.
+pub fn crash<D: Disk>(disk: &mut D, pick: u64) -> Result<(), AllocError>
+    ensures left { IsTrue D.tells → OnOk result (Left (D.past disk.old) (D.time disk.old) (D.time disk.old) (λ f. (D.now disk.new f).reading)) }
+    ensures before { IsTrue D.tells → OnOk result (Left (D.past disk.new) (D.time disk.old) (D.time disk.old) (λ f. (D.now disk.new f).reading)) }
+{
+    disk.crash(pick)
 }

@@ -1,19 +1,19 @@
 -- What each recorded call makes of its file and of all files, as the clauses of the disk say it.
-use Rattle.std.proofs.Common.{◌≡◌, ◌≢◌, ◌<◌, ◌≤◌, ℕ, ◌+◌, ◌*◌, ◌-◌, Bool, true, false, List, [], ◌∷◌, ◌++◌, length, take, get_or, set, if◌then◌else◌, Option, Some, None, IsSome, refl, sym, ◌∙◌, ap, subst, arith, eqb, ⊎_elim, vec_len, vec_capacity}
+use Rattle.std.proofs.Common.{◌≡◌, ◌≢◌, ◌<◌, ◌≤◌, ℕ, ◌+◌, ◌*◌, ◌-◌, Bool, true, false, List, [], ◌∷◌, ◌++◌, length, take, get_or, set, if◌then◌else◌, Option, Some, IsSome, refl, sym, ◌∙◌, ap, subst, arith, eqb, ⊎_elim, vec_capacity}
 use Rattle.std.proofs.lemmas.List.{get_or-set_same, get_or-set_other, length-set}
 use Rattle.std.proofs.lemmas.Bool.Decides.{eqb_tells}
 use Rattle.hx_etag.specs.declared.stat.Stat.{Stat}
-use Rattle.hx_disk.specs.Disk.{Elapses, ChangesOnly}
-use Rattle.hx_disk.specs.File.{FileState, IsAtRest, Tried, Wrote, TriedCut, WasCut, Synced, SameContent, Crashed}
+use Rattle.hx_disk.specs.Disk.{Elapses}
+use Rattle.hx_disk.specs.File.{FileState, Tried, Wrote, TriedCut, WasCut, Synced, SameContent, Crashed}
 use Rattle.hx_disk.specs.Overlay.{overlaid}
 use Rattle.hx_memdisk.specs.Event.{Event, Writes, Cuts, Syncs, SetsMtime, Crashes}
-use Rattle.hx_memdisk.specs.Kept.{IsAfter, HasLeft, stat_of}
+use Rattle.hx_memdisk.specs.Kept.{IsAfter, stat_of}
 use Rattle.hx_memdisk.specs.Record.{HasRoom}
 use Rattle.hx_memdisk.specs.Room.{FileTakes}
-use Rattle.hx_memdisk.specs.Replay.{after, part_of, written_stat, write_after, cut_after, sync_after, mtime_after, crash_after, pick_of, pick_of_bytes, resized, no_file, replayed-nil, file_after}
+use Rattle.hx_memdisk.specs.Replay.{part_of, written_stat, write_after, cut_after, sync_after, mtime_after, crash_after, pick_of, file_after}
 use Rattle.hx_memdisk.specs.declared.kept.Kept.{Kept}
 use Rattle.hx_memdisk.specs.declared.record.Record.{Record}
-use Rattle.hx_memdisk.proofs.Steps.{IsOn, after_write, after_cut, after_sync, after_mtime, after_crash, length_new, past_kept, now_after, others_same, own_after, synced_after, all_after}
+use Rattle.hx_memdisk.proofs.Steps.{after_write, after_cut, after_sync, after_mtime, after_crash, length_new, past_kept, now_after, own_after, synced_after, all_after}
 
 -- Time goes on by the one call, and no other file changes.
 pub elapses : (calls new : List Event) (call : Event) → new ≡ calls ++ call ∷ [] → Elapses length (λ (l : List Event) (t f : ℕ). file_after (take t l) f) calls new

@@ -1,6 +1,5 @@
 -- What a crash makes of the files.
-use Rattle.std.proofs.Common.{◌≡◌, ◌<◌, ◌≤◌, ℕ, ◌+◌, min, ◌==◌, Bool, Option, Some, None, true, false, List, [], ◌∷◌, ◌++◌, length, take, drop, get_or, set, map, if◌then◌else◌, Vec, refl, sym, ◌∙◌, ap, subst, arith, below_more, ⊎_elim, length-append}
-use Rattle.std.specs.declared.alloc.Global.{Global}
+use Rattle.std.proofs.Common.{◌≡◌, ◌<◌, ◌≤◌, ℕ, ◌+◌, min, ◌==◌, Bool, Option, Some, None, true, false, List, [], ◌∷◌, ◌++◌, length, take, drop, get_or, if◌then◌else◌, refl, sym, ◌∙◌, ap, subst, arith, below_more, ⊎_elim}
 use Rattle.std.proofs.lemmas.List.{take_more, take_all, get_or_append_left, get_or_push, get_or-map, length-map}
 use Rattle.std.proofs.lemmas.Bool.{cases_lt}
 use Rattle.hx_etag.specs.declared.stat.Stat.{Stat}
@@ -9,8 +8,8 @@ use Rattle.hx_disk.specs.Overlay.{overlaid}
 use Rattle.hx_memdisk.specs.declared.entry.Entry.{Entry}
 use Rattle.hx_memdisk.specs.declared.entry.Entry.TheVariants.{Write, Cut, Sync, SetMtime, Crash}
 use Rattle.hx_memdisk.specs.declared.kept.Kept.{Kept}
-use Rattle.hx_memdisk.specs.Event.{Event, Writes, Cuts, Syncs, SetsMtime, Crashes, event_of, events_in, is_crash}
-use Rattle.hx_memdisk.specs.Kept.{IsAfter, HasLeft, stat_of}
+use Rattle.hx_memdisk.specs.Event.{Event, Crashes, event_of, events_in, is_crash}
+use Rattle.hx_memdisk.specs.Kept.{IsAfter, HasLeft}
 use Rattle.hx_memdisk.specs.Replay.{after, write_after, cut_after, sync_after, mtime_after, part_of, no_file, mixed, mixed_byte, pick_of, pick_of_bytes, resized, crash_after, replayed-nil, replayed-push, file_after}
 use Rattle.hx_memdisk.specs.Sound.{length-mixed, mixed_at}
 use Rattle.hx_memdisk.specs.Stable.{reading_after, IsReplayed}

@@ -1,12 +1,12 @@
 -- One more call in the record, and what it makes of the files.
-use Rattle.std.proofs.Common.{◌≡◌, ◌≢◌, ◌<◌, ◌≤◌, ◌⊎◌, ℕ, ◌+◌, Bool, true, false, List, [], ◌∷◌, ◌++◌, length, take, get_or, set, vec_capacity, Option, Some, None, refl, sym, ◌∙◌, ap, subst, arith, length-append, ⊎_elim, eqb}
+use Rattle.std.proofs.Common.{◌≡◌, ◌≢◌, ◌<◌, ◌≤◌, ℕ, ◌+◌, Bool, true, false, List, [], ◌∷◌, ◌++◌, length, take, get_or, set, refl, sym, ◌∙◌, ap, subst, arith, length-append, ⊎_elim, eqb}
 use Rattle.std.proofs.lemmas.List.{take-append-le, take_all, get_or-set_same, get_or-set_other}
 use Rattle.std.proofs.lemmas.Bool.{eq-eqb}
 use Rattle.std.proofs.lemmas.Bool.Decides.{nat_tests, eqb_tells}
 use Rattle.hx_disk.specs.File.{FileState}
 use Rattle.hx_memdisk.specs.Event.{Event, Writes, Cuts, Syncs, SetsMtime, Crashes}
-use Rattle.hx_memdisk.specs.Kept.{IsAfter, HasLeft, stat_of}
-use Rattle.hx_memdisk.specs.Replay.{after, write_after, cut_after, sync_after, mtime_after, crash_after, pick_of, pick_of_bytes, resized, no_file, replayed, replayed-nil, replayed-push, file_after}
+use Rattle.hx_memdisk.specs.Kept.{IsAfter, stat_of}
+use Rattle.hx_memdisk.specs.Replay.{after, write_after, cut_after, sync_after, mtime_after, crash_after, no_file, replayed-push, file_after}
 use Rattle.hx_memdisk.specs.declared.kept.Kept.{Kept}
 
 -- the call is on this file

@@ -1,7 +1,6 @@
 -- A file of a disk in memory, and what it shows of the file's state.
 use Rattle.std.specs.Prelude.{◌≡◌, ◌≤◌, ℕ, List, length, take, if◌then◌else◌, Option, Some, None}
 use Rattle.hx_etag.specs.declared.stat.Stat.{Stat}
-use Rattle.hx_disk.specs.File.{FileState}
 use Rattle.hx_memdisk.specs.Event.{Event}
 use Rattle.hx_memdisk.specs.Replay.{file_after, pick_of_bytes, resized}
 use Rattle.hx_memdisk.specs.declared.kept.Kept.{Kept}

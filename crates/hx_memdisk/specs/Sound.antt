@@ -1,5 +1,5 @@
 -- Each state that calls make is sound, and each pick names an image of it.
-use Rattle.std.specs.Prelude.{◌≡◌, ◌⊎◌, ◌<◌, ◌≤◌, ℕ, ◌+◌, ◌-◌, ◌/◌, ◌%◌, min, max, Bool, true, false, ◌==◌, if◌then◌else◌, List, [], ◌∷◌, ◌++◌, length, take, drop, map, slice_index, slice_index_or, get_or, Option, Some, None, MatchOption, refl}
+use Rattle.std.specs.Prelude.{◌≡◌, ◌<◌, ◌≤◌, ℕ, ◌+◌, ◌-◌, ◌/◌, ◌%◌, min, Bool, true, false, ◌==◌, if◌then◌else◌, List, [], ◌∷◌, length, slice_index_or, get_or, Option, Some, None, MatchOption, refl}
 use Rattle.std.proofs.Common.{sym, ◌∙◌, ap, subst, ⊎_elim, arith}
 use Rattle.std.proofs.lemmas.List.{get_or-take, length-take, length-map, get_or-map, get_or_default}
 use Rattle.std.proofs.lemmas.List.FromFn.{length-enumerate_from, get_or-enumerate_from}
@@ -7,9 +7,9 @@ use Rattle.std.proofs.lemmas.Bool.{eqb-true}
 use Rattle.std.specs.List.{enumerate_from}
 use Rattle.hx_etag.specs.declared.stat.Stat.{Stat}
 use Rattle.hx_disk.specs.Overlay.{overlaid, length-overlaid, overlaid_before, overlaid_behind, overlaid-nil}
-use Rattle.hx_disk.specs.File.{FileState, IsOutside, IsUntouched, IsImage, IsSound}
+use Rattle.hx_disk.specs.File.{FileState, IsImage, IsSound}
 use Rattle.hx_memdisk.specs.Event.{Event, Writes, Cuts, Syncs, SetsMtime, Crashes}
-use Rattle.hx_memdisk.specs.Replay.{no_file, part_of, written_stat, resized, mtime_of, write_after, cut_after, sync_after, mtime_after, mixed_byte, mixed, pick_of, crash_after, after, replayed, replayed-nil, replayed-cons}
+use Rattle.hx_memdisk.specs.Replay.{no_file, part_of, resized, mtime_of, write_after, cut_after, sync_after, mtime_after, mixed_byte, mixed, pick_of, crash_after, after, replayed, replayed-nil, replayed-cons}
 
 -- Besides, nothing is stable of a file that doesn't exist: no call takes a file away.
 pub record IsKept (s : FileState) : Type 0 where

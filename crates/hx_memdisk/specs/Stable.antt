@@ -1,5 +1,5 @@
 -- The stable content of a file, computed again from the record.
-use Rattle.std.specs.Prelude.{◌≡◌, ◌≤◌, ◌<◌, ℕ, Bool, ◌==◌, if◌then◌else◌, List, length, take}
+use Rattle.std.specs.Prelude.{◌≡◌, ◌≤◌, ◌<◌, ℕ, ◌==◌, if◌then◌else◌, List, take}
 use Rattle.hx_disk.specs.Overlay.{overlaid}
 use Rattle.hx_memdisk.specs.Event.{Event, Writes, Cuts, Syncs, SetsMtime, Crashes}
 use Rattle.hx_memdisk.specs.Replay.{part_of}

@@ -71,91 +71,38 @@ fn a_write_that_fails_has_written_its_first_half(rt: HostRuntime) -> Result<(), 
     Ok(())
 }
 
+// A file with these stable bytes, then cut to a length and written into, after a crash with this pick.
+fn left_of(
+    alloc: Global,
+    stable: &[u8],
+    kept: u64,
+    at: u64,
+    new: &[u8],
+    pick: u64,
+) -> Result<MemDisk, AllocError> {
+    let mut disk = disk(alloc, &[], None)?;
+    let file = FileNo::new(200);
+    let _ = write(&mut disk, file, 0, stable)? && sync(&mut disk, file)?;
+    let _ = cut(&mut disk, file, kept)? && write(&mut disk, file, at, new)?;
+    disk.crash(pick)?;
+    Ok(disk)
+}
+
 #[test]
 fn picks_mix_what_is_read_and_what_is_stable(rt: HostRuntime) -> Result<(), Fail> {
-    for (stable, kept, at, new, pick, left) in [
-        // What is read is longer than what is stable.
-        (
-            b"abcd".as_slice(),
-            4,
-            2,
-            b"XYZ".as_slice(),
-            0,
-            b"abcd".as_slice(),
-        ),
-        (
-            b"abcd".as_slice(),
-            4,
-            2,
-            b"XYZ".as_slice(),
-            1,
-            b"abXYZ".as_slice(),
-        ),
-        (
-            b"abcd".as_slice(),
-            4,
-            2,
-            b"XYZ".as_slice(),
-            2,
-            b"abXdZ".as_slice(),
-        ),
-        (
-            b"abcd".as_slice(),
-            4,
-            2,
-            b"XYZ".as_slice(),
-            3,
-            b"abcY\x01".as_slice(),
-        ),
-        // It is shorter.
-        (
-            b"abcdef".as_slice(),
-            2,
-            1,
-            b"Q".as_slice(),
-            0,
-            b"abcdef".as_slice(),
-        ),
-        (
-            b"abcdef".as_slice(),
-            2,
-            1,
-            b"Q".as_slice(),
-            1,
-            b"aQ".as_slice(),
-        ),
-        (
-            b"abcdef".as_slice(),
-            2,
-            1,
-            b"Q".as_slice(),
-            2,
-            b"ab".as_slice(),
-        ),
-        (
-            b"abcdef".as_slice(),
-            2,
-            1,
-            b"Q".as_slice(),
-            3,
-            b"aQ".as_slice(),
-        ),
+    let file = FileNo::new(200);
+    for (pick, longer, shorter) in [
+        (0, b"abcd".as_slice(), b"abcdef".as_slice()),
+        (1, b"abXYZ".as_slice(), b"aQ".as_slice()),
+        (2, b"abXdZ".as_slice(), b"ab".as_slice()),
+        (3, b"abcY\x01".as_slice(), b"aQ".as_slice()),
         // The sum of the place and the pick doesn't wrap.
-        (
-            b"abcd".as_slice(),
-            4,
-            0,
-            b"wxyz".as_slice(),
-            u64::MAX,
-            b"axcz".as_slice(),
-        ),
+        (u64::MAX, b"abcY\x01".as_slice(), b"aQ".as_slice()),
     ] {
-        let mut disk = disk(rt.alloc(), &[], None)?;
-        let file = FileNo::new(200);
-        assert!(rt; write(&mut disk, file, 0, stable)? && sync(&mut disk, file)?);
-        assert!(rt; cut(&mut disk, file, kept)? && write(&mut disk, file, at, new)?);
-        disk.crash(pick)?;
-        assert_eq!(rt; disk.bytes(file), left, "after the pick {pick}");
+        let disk = left_of(rt.alloc(), b"abcd", 4, 2, b"XYZ", pick)?;
+        assert_eq!(rt; disk.bytes(file), longer, "after the pick {pick}");
+        let disk = left_of(rt.alloc(), b"abcdef", 2, 1, b"Q", pick)?;
+        assert_eq!(rt; disk.bytes(file), shorter, "after the pick {pick}");
     }
     Ok(())
 }
@@ -220,7 +167,10 @@ fn each_call_fails_as_planned(rt: HostRuntime) -> Result<(), Fail> {
 #[test]
 fn writes_are_counted_and_files_begin_to_exist(rt: HostRuntime) -> Result<(), Fail> {
     let mut disk = disk(rt.alloc(), &[1, 2], None)?;
-    let [one, two, three, four] = [1, 2, 3, 4].map(FileNo::new);
+    let one = FileNo::new(1);
+    let two = FileNo::new(2);
+    let three = FileNo::new(3);
+    let four = FileNo::new(4);
 
     // A failed write makes a file exist only where it has written a byte, and has no part in modification times.
     assert!(rt; !write(&mut disk, one, 0, b"x")? && !write(&mut disk, two, 0, b"xy")?);
@@ -254,7 +204,8 @@ fn writes_are_counted_and_files_begin_to_exist(rt: HostRuntime) -> Result<(), Fa
 #[test]
 fn a_crash_forgets_the_plan_and_keeps_the_stats(rt: HostRuntime) -> Result<(), Fail> {
     let mut disk = disk(rt.alloc(), &[1, 2], Some(4))?;
-    let [one, two] = [1, 2].map(FileNo::new);
+    let one = FileNo::new(1);
+    let two = FileNo::new(2);
     assert!(rt; !sync(&mut disk, one)? && !sync(&mut disk, one)?);
     assert!(rt;
         write(&mut disk, one, 0, b"abc")?

@@ -1,5 +1,4 @@
-use Rattle.std.proofs.Common.{rules, arith, false, List, Vec, ℕ, get_or, ap, ◌∙◌}
-use Rattle.std.specs.declared.alloc.Global.{Global}
+use Rattle.std.proofs.Common.{rules, arith, false}
 use Rattle.std.proofs.lemmas.List.{length-map}
 use Rattle.hx_memdisk.specs.declared.entry.Entry.TheVariants.{Sync}
 use Rattle.hx_memdisk.specs.Event.{event_of}

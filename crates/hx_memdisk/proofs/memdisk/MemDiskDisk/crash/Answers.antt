@@ -1,7 +1,7 @@
-use Rattle.std.proofs.Common.{rules, arith, ◌≡◌, ◌<◌, ◌≤◌, ℕ, ◌+◌, Vec, ◌++◌, ◌∷◌, [], List, get_or, length, subst, sym, ◌∙◌, ap, refl}
+use Rattle.std.proofs.Common.{rules, arith, ◌≡◌, ◌<◌, ℕ, ◌+◌, Vec, ◌++◌, ◌∷◌, [], List, get_or, length, subst, ◌∙◌, ap}
 use Rattle.hx_memdisk.specs.Event.{Event, Crashes}
 use Rattle.std.specs.declared.alloc.Global.{Global}
-use Rattle.hx_memdisk.specs.Kept.{IsAfter, HasLeft}
+use Rattle.hx_memdisk.specs.Kept.{HasLeft}
 use Rattle.hx_memdisk.specs.MemDisk.{files_of}
 use Rattle.hx_memdisk.specs.Replay.{file_after}
 use Rattle.hx_memdisk.specs.Record.{events_of}

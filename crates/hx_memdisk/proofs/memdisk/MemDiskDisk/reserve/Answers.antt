@@ -1,8 +1,4 @@
-use Rattle.std.proofs.Common.{rules, arith, ◌≡◌, ◌<◌, ℕ, List, get_or, subst, sym}
-use Rattle.hx_memdisk.specs.Event.{Event}
-use Rattle.hx_memdisk.specs.Kept.{IsAfter}
-use Rattle.hx_memdisk.specs.Record.{events_of}
-use Rattle.hx_memdisk.specs.declared.kept.Kept.{Kept}
+use Rattle.std.proofs.Common.{rules}
 use Rattle.hx_memdisk.proofs.Steps.{same_after}
 use Rattle.hx_memdisk.proofs.memdisk.MemDiskDisk.reserve.Goals as goal
 

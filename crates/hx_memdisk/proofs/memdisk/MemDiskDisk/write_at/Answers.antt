@@ -1,9 +1,8 @@
-use Rattle.std.proofs.Common.{rules, arith, ◌≡◌, ◌<◌, ℕ, length, true, false, sym, ◌∙◌, ap, take, []}
+use Rattle.std.proofs.Common.{rules, arith, ◌<◌, length, true, false, sym, ◌∙◌, ap}
 use Rattle.hx_memdisk.proofs.Steps.{length_new, past_kept, others_same}
-use Rattle.hx_memdisk.proofs.Calls.{takes_set, room_less, room_less_none, each_write, state_write, wrote, tried}
-use Rattle.hx_memdisk.specs.Course.{next_mtime}
-use Rattle.hx_memdisk.specs.MemDisk.{files_of, course_of}
-use Rattle.hx_memdisk.specs.Replay.{write_after, cut_after, sync_after, mtime_after}
+use Rattle.hx_memdisk.proofs.Calls.{takes_set, room_less, each_write, state_write, wrote, tried}
+use Rattle.hx_memdisk.specs.MemDisk.{files_of}
+use Rattle.hx_memdisk.specs.Replay.{write_after}
 use Rattle.hx_memdisk.proofs.memdisk.MemDiskDisk.write_at.Goals as goal
 
 pub invariant_of-self-clause-each_after : goal.invariant_of-self-clause-each_after

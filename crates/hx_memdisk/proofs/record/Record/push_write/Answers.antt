@@ -1,4 +1,4 @@
-use Rattle.std.proofs.Common.{arith, ◌≡◌, ◌<◌, ◌≤◌, ℕ, ◌∙◌, ap, length, get_or, List, vec_len}
+use Rattle.std.proofs.Common.{arith, ◌<◌, ◌≤◌, ℕ, ◌∙◌, ap, length, get_or, List}
 use Rattle.hx_memdisk.specs.declared.entry.Entry.{Entry}
 use Rattle.hx_memdisk.specs.Event.{end_of, events_in}
 use Rattle.hx_memdisk.proofs.Records.{events_push}
