@@ -78,6 +78,7 @@ first_eight (a ∷ b ∷ c ∷ d ∷ e ∷ f ∷ g ∷ []) = refl
 first_eight (a ∷ b ∷ c ∷ d ∷ e ∷ f ∷ g ∷ h ∷ l) = refl
 
 pub number_read : (head reading : List ℕ) (n : ℕ) → length head ≡ 8 → head ≡ take 8 reading → Some n ≡ u64_at head 0 → n ≡ from_be_bytes w64 reading
+unfolding u64_at
 number_read head reading n long is read =
     let there : u64_at head 0 ≡ Some (from_be_bytes w64 head) = rw (le_true 8 (length head) (omega (arith, long))) in
     let same : n ≡ from_be_bytes w64 head = let both : Some n ≡ Some (from_be_bytes w64 head) = read ∙ there in cc in

@@ -1,8 +1,9 @@
-ghost use Rattle.std.specs.Prelude.{◌≡◌, ◌≢◌, ◌≤◌, ◌<◌, ℕ, ◌+◌, IsTrue, List, length, OnOk};
-ghost use Rattle.hx_faults.specs.Faults.{HasCause};
+ghost use Rattle.std.specs.Prelude.{◌≡◌, ◌≢◌, ◌≤◌, ◌<◌, ℕ, ◌+◌, IsTrue, IsErrOf, List, length, OnOk};
+ghost use Rattle.hx_faults.specs.Faults.{HasCause, Rose};
 ghost use Rattle.hx_disk.specs.Disk.{Through, Left};
 ghost use Rattle.hx_disk.specs.File.{IsImage};
 ghost use Rattle.hx_disk_laws.specs.Client.{IsShut, OnTheWay};
+ghost use Rattle.hx_disk_laws.specs.declared.client.ShutError.TheVariants.{Failed, NoMemory};
 
 use hx_disk::{Disk, DiskFailed, FileNo};
 use std::alloc::AllocError;
@@ -10,17 +11,24 @@ use std::alloc::AllocError;
 /// Why two files could not be shut.
 #[derive(Clone, Copy, Debug, PartialEq, Eq)]
 pub enum ShutError {
-    DiskFailed,
+    /// A call on the disk failed.
+    Failed,
+
+    /// There was no memory for the room.
     NoMemory,
 }
 
 impl From<DiskFailed> for ShutError {
+    ghost from_gives = { λ _ e. e ≡ Failed };
+
     fn from(_: DiskFailed) -> ShutError {
-        ShutError::DiskFailed
+        ShutError::Failed
     }
 }
 
 impl From<AllocError> for ShutError {
+    ghost from_gives = { λ _ e. e ≡ NoMemory };
+
     fn from(_: AllocError) -> ShutError {
         ShutError::NoMemory
     }
@@ -42,8 +50,10 @@ pub fn shut<D: Disk>(disk: &mut D, file: FileNo) -> Result<(), DiskFailed>
 }
 
 /// Shuts one file, and then another. A crash at any moment leaves of every further file what it could have left before.
+/// It answers `Failed` only where the count of faults rose.
 pub fn shut_both<D: Disk>(disk: &mut D, first: FileNo, second: FileNo) -> Result<(), ShutError>
     ensures ok { IsTrue D.tells → OnOk result (IsShut (D.now disk.new first) × IsShut (D.now disk.new second)) }
+    ensures failed { IsErrOf result ShutError.Failed → Rose (D.failures disk.old) (D.failures disk.new) }
     ensures others { IsTrue D.tells → (image : ℕ → List ℕ) → Left (D.past disk.new) (D.time disk.old) (D.time disk.new) image → (f : ℕ) → f ≢ first → f ≢ second → IsImage (D.now disk.old f) (image f) }
 {
     disk.reserve(first, 1, 2)?;
@@ -53,8 +63,9 @@ pub fn shut_both<D: Disk>(disk: &mut D, first: FileNo, second: FileNo) -> Result
     Ok(())
 }
 
-/// Crashes a disk. What is read then is an image of the whole disk at the moment of the crash.
+/// Crashes a disk. What is read then is what the pick names, and an image of the whole disk at the moment of the crash.
 pub fn crash<D: Disk>(disk: &mut D, pick: u64) -> Result<(), AllocError>
+    ensures named { IsTrue D.tells → OnOk result ((f : ℕ) → (D.now disk.new f).reading ≡ D.picked pick (D.now disk.old f)) }
     ensures left { IsTrue D.tells → OnOk result (Left (D.past disk.old) (D.time disk.old) (D.time disk.old) (λ f. (D.now disk.new f).reading)) }
     ensures before { IsTrue D.tells → OnOk result (Left (D.past disk.new) (D.time disk.old) (D.time disk.old) (λ f. (D.now disk.new f).reading)) }
 {
