@@ -1,0 +1,86 @@
+//! The resources of a life, by number.
+
+ghost use Rattle.std.specs.Prelude.{◌≡◌, ◌<◌, ◌++◌, [], ◌∷◌, length, IfOk, IfErr, OnErr, Option, Some, None, IsNone, slice_get};
+ghost use Rattle.hx_events.specs.Places.{place_of};
+
+use crate::{Bytes, ResNo};
+use std::alloc::Global;
+use std::marker::Model;
+
+/// A list of distinct resources, at most 256. Contracts see the list; a resource's number is its place in it.
+#[derive(Drop)]
+pub struct Names {
+    items: Vec<Bytes>,
+}
+
+impl Model for Names {
+    ghost use Rattle.std.specs.Prelude.{ℕ, List, ◌≤◌, length};
+    ghost use Rattle.hx_events.specs.Places.{IsDistinct};
+
+    ghost Value = { List (List ℕ) };
+
+    ghost view = { λ n. n.items.items };
+
+    ghost invariant = { λ n. (length n.items.items ≤ 256) × IsDistinct n.items.items };
+}
+
+impl Names {
+    pub fn new(alloc: Global) -> Names
+        ensures { result ≡ [] }
+    {
+        Names {
+            items: Vec::new(alloc),
+        }
+    }
+
+    pub fn len(&self) -> usize
+        ensures { result ≡ length self.now }
+    {
+        self.items.len()
+    }
+
+    /// Adds a resource at the end. For want of memory the resource is handed back, and the list is as before.
+    pub fn add(&mut self, resource: Vec<u8>) -> Result<ResNo, Vec<u8>>
+        requires new { place_of resource.items self.old ≡ None }
+        requires room { length self.old < 256 }
+        ensures number { IfOk result (λ res. res ≡ length self.old) }
+        ensures added { IfOk result (λ res. self.new ≡ self.old ++ resource.items ∷ []) }
+        ensures returned { IfErr result (λ back. back.items ≡ resource.items) }
+        ensures unchanged { OnErr result (self.new ≡ self.old) }
+    {
+        let number = self.items.len();
+        match self.items.push(Bytes::new(resource)) {
+            Ok(()) => Ok(ResNo::new(number as u32)),
+            Err(failed) => Err(failed.value.into_vec()),
+        }
+    }
+
+    /// The number of a resource, None exactly where it isn't in the list.
+    pub fn find(&self, resource: &[u8]) -> Option<ResNo>
+        ensures { result ≡ place_of resource.now self.now }
+    {
+        for (number, name) in self.items.iter().enumerate() {
+            if name.as_slice() == resource {
+                return Some(ResNo::new(number as u32));
+            }
+        }
+        None
+    }
+
+    fn text_at(&self, res: ResNo) -> &[u8]
+        requires { res < length self.now }
+        ensures { slice_get self.now res ≡ Some result.now }
+    {
+        self.items[res.number() as usize].as_slice()
+    }
+
+    /// The resource with this number, which `find` gives back.
+    pub fn text(&self, res: ResNo) -> &[u8]
+        requires { res < length self.now }
+        ensures text { slice_get self.now res ≡ Some result.now }
+        ensures found { place_of result.now self.now ≡ Some res }
+    {
+        let _ = &self.items;
+        self.text_at(res)
+    }
+}

@@ -1,0 +1,10 @@
+pub mod Entries
+pub mod Stats
+pub mod Versions
+pub mod Copies
+pub mod Saves
+pub mod Backups
+pub mod Allowed
+pub mod Due
+pub mod Legal
+pub mod Interleavings

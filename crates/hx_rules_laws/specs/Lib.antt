@@ -1,0 +1,16 @@
+pub mod Frames
+pub mod Marks
+pub mod Backups
+pub mod Dues
+pub mod Kept
+pub mod Rows
+pub mod Legals
+pub mod Saves
+pub mod SaveLaws
+pub mod Trails
+pub mod TrailLaws
+pub mod Copies
+pub mod CopyLaws
+pub mod Quiet
+pub mod Sizes
+pub mod NotOlder
