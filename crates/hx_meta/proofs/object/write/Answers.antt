@@ -1,0 +1,28 @@
+use Rattle.std.proofs.Common.{◌≡◌, ◌≤◌, ◌+◌, ◌*◌, length, rules, subst, sym, Some}
+use Rattle.std.specs.Prelude.{All}
+use Rattle.serde_json.specs.Read as json
+use Rattle.serde_json.specs.Written.{compact_text}
+use Rattle.hx_meta.specs.Metas.{IsPrintable, object_of}
+use Rattle.hx_meta.proofs.Lines.{printable_object, length_object, printable_is_utf8}
+use Rattle.hx_meta.proofs.Objects.{reads_back, shallow}
+use Rattle.hx_meta.proofs.object.write.Goals as goal
+
+pub returns-clause-printable : goal.returns-clause-printable
+returns-clause-printable c =
+    let is_text : c.into_bytes.result.items ≡ compact_text (object_of c.args.meta.now.base c.args.meta.now.type_id) = search rules in
+    subst (All IsPrintable) (sym is_text) (printable_object c.args.meta.now.base c.args.meta.now.type_id c.value_of.ensures.fits c.requires)
+
+pub returns-clause-short : goal.returns-clause-short
+returns-clause-short c =
+    let is_text : c.into_bytes.result.items ≡ compact_text (object_of c.args.meta.now.base c.args.meta.now.type_id) = search rules in
+    subst (λ (text : _). length text ≤ 200 + 2 * length c.args.meta.now.type_id) (sym is_text)
+    (length_object c.args.meta.now.base c.args.meta.now.type_id c.value_of.ensures.fits c.requires)
+
+pub returns-clause-read_back : goal.returns-clause-read_back
+returns-clause-read_back c =
+    let is_text : c.into_bytes.result.items ≡ compact_text (object_of c.args.meta.now.base c.args.meta.now.type_id) = search rules in
+    let reads : json.read c.into_bytes.result.items ≡ Some (object_of c.args.meta.now.base c.args.meta.now.type_id) = search (rules, shallow) in
+    reads_back c.args.meta.now.base c.args.meta.now.type_id c.into_bytes.result.items
+    (printable_is_utf8 c.into_bytes.result.items
+    (subst (All IsPrintable) (sym is_text) (printable_object c.args.meta.now.base c.args.meta.now.type_id c.value_of.ensures.fits c.requires)))
+    reads

@@ -1,0 +1,9 @@
+//! The JSON object in a backup's first line: what an editor knew of the file when it made the backup. VS Code keeps
+//! the same keys for a text file, among others.
+#![tactic(auto)]
+
+mod object;
+#[cfg(test)]
+mod tests;
+
+pub use object::{Meta, MetaError, read, write};

@@ -1,0 +1,17 @@
+//! Slot files: a gate byte before a frame, and the calls that close the gate, put a frame behind it and open it.
+//!
+//! Each resource's backup has a pair of such files, so that one of them stands while the other is written. VS Code
+//! writes one file per backup; the gates, the stamps and the syncs are this project's own.
+#![tactic(auto)]
+
+mod calls;
+mod frames;
+mod pair;
+mod slot;
+#[cfg(test)]
+mod tests;
+
+pub use calls::{close_gate, open_gate, put_block};
+pub use frames::{frame, shown};
+pub use pair::{RawPair, slot_file};
+pub use slot::Shown;
