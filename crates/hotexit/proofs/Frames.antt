@@ -77,9 +77,15 @@ first_eight (a ∷ b ∷ c ∷ d ∷ e ∷ f ∷ []) = refl
 first_eight (a ∷ b ∷ c ∷ d ∷ e ∷ f ∷ g ∷ []) = refl
 first_eight (a ∷ b ∷ c ∷ d ∷ e ∷ f ∷ g ∷ h ∷ l) = refl
 
-pub number_read : (head reading : List ℕ) (n : ℕ) → length head ≡ 8 → head ≡ take 8 reading → Some n ≡ u64_at head 0 → n ≡ from_be_bytes w64 reading
+read_there : (head : List ℕ) → length head ≡ 8 → u64_at head 0 ≡ Some (from_be_bytes w64 head)
 unfolding u64_at
+read_there head long = rw (le_true 8 (length head) (omega (arith, long)))
+
+-- eight bytes write some number
+pub always_read : (head : List ℕ) → length head ≡ 8 → u64_at head 0 ≡ None → ⊥
+always_read head long none = let there = read_there head long in cc
+
+pub number_read : (head reading : List ℕ) (n : ℕ) → length head ≡ 8 → head ≡ take 8 reading → Some n ≡ u64_at head 0 → n ≡ from_be_bytes w64 reading
 number_read head reading n long is read =
-    let there : u64_at head 0 ≡ Some (from_be_bytes w64 head) = rw (le_true 8 (length head) (omega (arith, long))) in
-    let same : n ≡ from_be_bytes w64 head = let both : Some n ≡ Some (from_be_bytes w64 head) = read ∙ there in cc in
+    let same : n ≡ from_be_bytes w64 head = let both : Some n ≡ Some (from_be_bytes w64 head) = read ∙ read_there head long in cc in
     same ∙ ap (from_be_bytes w64) is ∙ first_eight reading

@@ -6,7 +6,6 @@ mod reader;
 mod script;
 mod session;
 mod steps;
-mod text;
 mod whole;
 
 use crate::whole::{End, Finished, Why, top};

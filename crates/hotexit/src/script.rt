@@ -1,15 +1,15 @@
 ghost use Rattle.std.specs.Prelude.{◌≡◌, IfOk};
 ghost use Rattle.hotexit.specs.Script.{step_of};
 
-use crate::text::Text;
 use hx_base::{EscapeError, unescape};
+use hx_events::Bytes;
 use std::alloc::{AllocError, Global};
 
 /// What a line of a script asks for.
 #[derive(Drop)]
 pub enum Step {
     /// The text in hand becomes this one.
-    Edit(Text),
+    Edit(Bytes),
 
     /// The text in hand is written to the file.
     Backup,
@@ -33,7 +33,7 @@ pub fn read_step(alloc: Global, line: &[u8]) -> Result<Option<Step>, AllocError>
         return Ok(None);
     }
     match unescape(alloc, &line[6..]) {
-        Ok(bytes) => Ok(Some(Step::Edit(Text::new(bytes)))),
+        Ok(bytes) => Ok(Some(Step::Edit(Bytes::new(bytes)))),
         Err(EscapeError::BadEscape(_)) => Ok(None),
         Err(EscapeError::NoMemory) => Err(AllocError),
     }

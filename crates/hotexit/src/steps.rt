@@ -43,7 +43,7 @@ fn take_step<D: Disk>(
     ensures later { D.failures disk.old ≤ D.failures disk.new }
 {
     match step {
-        Step::Edit(text) => session.text = text.into_bytes(),
+        Step::Edit(text) => session.text = text.into_vec(),
         Step::Backup => back_up(alloc, disk, file, &session.text)?,
         Step::Reopen => {
             let text = restore(alloc, disk, file)?;

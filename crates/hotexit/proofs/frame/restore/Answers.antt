@@ -1,6 +1,6 @@
-use Rattle.std.proofs.Common.{rules, arith, ap, sym, ◌≡◌, ◌∙◌, List, ℕ, length, take, drop, Some}
+use Rattle.std.proofs.Common.{rules, arith, ap, sym, ◌≡◌, ◌∙◌, length, take, drop, Some}
 use Rattle.hx_disk.specs.File.{FileState}
-use Rattle.hotexit.proofs.Frames.{no_size, size_of, short_shows, cut_shows, whole_shows, number_read}
+use Rattle.hotexit.proofs.Frames.{no_size, size_of, short_shows, cut_shows, whole_shows, number_read, always_read}
 use Rattle.hotexit.proofs.frame.restore.Goals as goal
 
 pub returns-in_default-clause-shown : goal.returns-in_default-clause-shown
@@ -10,6 +10,11 @@ pub returns-then-size-lt8-clause-shown : goal.returns-then-size-lt8-clause-shown
 returns-then-size-lt8-clause-shown g c = λ told.
     let size = size_of _ _ _ c.in-Some.is (c.in_ok-size.ensures.size told) in
     sym (short_shows _ (omega (arith, size, c.if-size-lt8.true)))
+
+pub returns-in_default-read_u64-clause-shown : goal.returns-in_default-read_u64-clause-shown
+returns-in_default-read_u64-clause-shown g c = λ told.
+    let long : length c.read.new.into ≡ 8 = search rules in
+    absurd (always_read c.read.new.into long (sym c.read_u64.ensures ∙ c.in_default-read_u64.is))
 
 pub returns-then-length-size-clause-shown : goal.returns-then-length-size-clause-shown
 returns-then-length-size-clause-shown g c = λ told.
