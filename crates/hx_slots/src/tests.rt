@@ -1,5 +1,7 @@
-use crate::{Shown, frame, shown, slot_file};
+use crate::{Shown, close_gate, frame, open_gate, put_block, shown, slot_file};
+use hx_disk::Disk;
 use hx_events::{PairNo, Side, SlotForm};
+use hx_memdisk::{MemDisk, Plan};
 use std::test::Fail;
 
 const RECORD: &[u8] = b"file:///a {\"typeId\":\"\"}\nhello";
@@ -36,6 +38,30 @@ fn a_slot_file_as_it_is_written(rt: HostRuntime) -> Result<(), Fail> {
     assert_eq!(rt; file.len(), 46);
     assert_eq!(rt; file.as_slice(), bytes.as_slice());
     assert_eq!(rt; shown(&file), place(SlotForm::Two, 1, 17, 46));
+    Ok(())
+}
+
+#[test]
+fn the_calls_write_a_slot_file(rt: HostRuntime) -> Result<(), Fail> {
+    let alloc = rt.alloc();
+    let plan = Plan {
+        fails: Vec::new(alloc),
+        fuse: None,
+    };
+    let mut disk = MemDisk::new(alloc, plan)?;
+    let file = slot_file(PairNo::new(0), Side::B);
+    let frame = frame(alloc, 1, RECORD)?;
+    assert_eq!(rt; frame.len(), 45);
+    disk.reserve(file, 1, 2)?;
+    close_gate(&mut disk, file)?;
+    assert!(rt; shown(disk.bytes(file)).is_none());
+    disk.reserve(file, 46, 2)?;
+    put_block(&mut disk, file, 1, &frame)?;
+    assert!(rt; shown(disk.bytes(file)).is_none());
+    disk.reserve(file, 1, 2)?;
+    open_gate(&mut disk, file)?;
+    assert_eq!(rt; disk.bytes(file).len(), 46);
+    assert_eq!(rt; shown(disk.bytes(file)), place(SlotForm::Two, 1, 17, 46));
     Ok(())
 }
 
