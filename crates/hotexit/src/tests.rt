@@ -154,6 +154,28 @@ fn other_bytes_are_refused(rt: HostRuntime) -> Result<(), Fail> {
 }
 
 #[test]
+fn a_first_call_may_fail_for_any_script(rt: HostRuntime) -> Result<(), Fail> {
+    // A sink that fails isn't asked where nothing is printed.
+    let table: [(&str, End); 4] = [
+        ("edit =hello\nbackup\nedit =x\nreopen\n", End::WriteFault),
+        ("", End::Done),
+        ("reopen\n", End::WriteFault),
+        ("edit =%G1\n", FORM),
+    ];
+    for (lines, end) in table {
+        let mut script = b"hotexit 0\n".to_vec(rt.alloc())?;
+        script.extend_from_slice(lines.as_bytes())?;
+        let unread = replay(rt.alloc(), &["replay"], &script, &read_fails(1))?;
+        assert!(rt; unread.end == End::ReadFault, "unread {lines:?}");
+        assert!(rt; unread.out.is_empty());
+        let unwritten = replay(rt.alloc(), &["replay"], &script, &write_fails(1))?;
+        assert!(rt; unwritten.end == end, "unwritten {lines:?}");
+        assert!(rt; unwritten.out.is_empty());
+    }
+    Ok(())
+}
+
+#[test]
 fn a_fault_ends_a_run(rt: HostRuntime) -> Result<(), Fail> {
     let script = b"hotexit 0\nedit =hello\nbackup\nreopen\nreopen\n".as_slice();
     let both = "restored =hello\nrestored =hello\n";
