@@ -17,6 +17,13 @@ escape_of byte = if is_plain byte then byte ∷ [] else 37 ∷ digit_glyph true 
 abbrev pub escaped : List ℕ → List ℕ
 escaped = flat_map escape_of
 
+-- the byte that an escape at the front of a text stands for, if one is there
+abbrev pub escape_in : List ℕ → Option ℕ
+escape_in text =
+    if slice_index text 0 == 37 && is_ascii_hexdigit (slice_index text 1) && is_ascii_hexdigit (slice_index text 2)
+    then Some (16 * digit_value (slice_index text 1) + digit_value (slice_index text 2))
+    else None
+
 -- Whether no text has this byte in front of these: a `%` without two hexadecimal digits of either case behind it, or
 -- a byte that is not printable.
 abbrev pub is_bad : ℕ → List ℕ → Bool

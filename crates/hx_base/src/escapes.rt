@@ -1,7 +1,8 @@
-ghost use Rattle.std.specs.Prelude.{◌≡◌, ◌<◌, ℕ, true, IsTrue, IfOk, OnOk};
-ghost use Rattle.std.specs.Char.{is_ascii_graphic, is_ascii_hexdigit, digit_value};
+ghost use Rattle.std.specs.Prelude.{not, ◌≡◌, ◌<◌, ◌≤◌, ◌+◌, ◌*◌, ℕ, true, IsTrue, IfOk, OnOk, length};
+ghost use Rattle.std.specs.Char.{is_ascii_hexdigit, digit_value};
 ghost use Rattle.std.specs.Fmt.{digit_glyph};
-ghost use Rattle.hx_base.specs.Escapes.{escaped, is_plain, unescaped, bad_place};
+ghost use Rattle.std.specs.List.{position_or_len};
+ghost use Rattle.hx_base.specs.Escapes.{escaped, is_plain, unescaped, bad_place, escape_in};
 ghost use Rattle.hx_base.specs.declared.escapes.EscapeError.TheVariants.{NoMemory};
 
 use std::alloc::{AllocError, AllocFailed, Global};
@@ -51,6 +52,29 @@ fn hex_digit(value: u8) -> u8
     }
 }
 
+/// How many of the first bytes stand for themselves.
+fn plain_run(bytes: &[u8]) -> usize
+    ensures value { result ≡ position_or_len (λ byte. not (is_plain byte)) bytes.now }
+    ensures within { result ≤ length bytes.now }
+{
+    bytes
+        .iter()
+        .position(|byte| !is_plain_byte(*byte))
+        .unwrap_or(bytes.len())
+}
+
+/// How many of the bytes are written as three.
+fn escapes_in(bytes: &[u8]) -> usize
+    ensures value { length (escaped bytes.now) ≡ length bytes.now + 2 * result }
+    ensures within { result ≤ length bytes.now }
+{
+    let mut count = 0;
+    for byte in bytes {
+        count += usize::from(!is_plain_byte(*byte));
+    }
+    count
+}
+
 /// The bytes as one word of printable text: each byte from 0x21 to 0x7E other than `%` stays, and each other byte
 /// becomes `%` and two upper case hexadecimal digits.
 pub fn escape(alloc: Global, bytes: &[u8]) -> Result<Vec<u8>, AllocError>
@@ -60,21 +84,22 @@ pub fn escape(alloc: Global, bytes: &[u8]) -> Result<Vec<u8>, AllocError>
     ensures good { IfOk result (λ text. bad_place text.items ≡ None) }
     ensures read_back { IfOk result (λ text. unescaped text.items ≡ bytes.now) }
 {
-    let mut text = Vec::new(alloc);
-    for byte in bytes {
-        if is_plain_byte(*byte) {
-            text.push(*byte)?;
-        } else {
-            text.extend_from_slice(&[b'%', hex_digit(*byte / 16), hex_digit(*byte % 16)])?;
+    let length = bytes
+        .len()
+        .saturating_add(escapes_in(bytes).saturating_mul(2));
+    let mut text = Vec::with_capacity(alloc, length)?;
+    let mut at = 0;
+    while at < bytes.len() {
+        let end = at + plain_run(&bytes[at..]);
+        text.extend_from_slice(&bytes[at..end])?;
+        at = end;
+        if at < bytes.len() {
+            let byte = bytes[at];
+            text.extend_from_slice(&[b'%', hex_digit(byte / 16), hex_digit(byte % 16)])?;
+            at += 1;
         }
     }
     Ok(text)
-}
-
-fn is_printable(byte: u8) -> bool
-    ensures { result ≡ is_ascii_graphic byte }
-{
-    byte.is_ascii_graphic()
 }
 
 fn is_hex_digit(byte: u8) -> bool
@@ -95,6 +120,18 @@ fn hex_value(digit: u8) -> u8
     }
 }
 
+/// The byte that an escape at the front of the text stands for, None exactly where none is there.
+fn escape_at_front(text: &[u8]) -> Option<u8>
+    ensures { result ≡ escape_in text.now }
+{
+    match text {
+        [b'%', high, low, ..] if is_hex_digit(*high) && is_hex_digit(*low) => {
+            Some(16 * hex_value(*high) + hex_value(*low))
+        }
+        _ => None,
+    }
+}
+
 /// The bytes that the text stands for. It takes what `escape` writes, and also digits of lower case and any byte as an
 /// escape. `BadEscape` comes exactly where the text has a bad place, and names the first. `NoMemory` may come in place
 /// of either answer.
@@ -103,21 +140,17 @@ pub fn unescape(alloc: Global, text: &[u8]) -> Result<Vec<u8>, EscapeError>
     ensures good { OnOk result (bad_place text.now ≡ None) }
     ensures bad { (place : ℕ) → result ≡ Err (EscapeError.BadEscape place) → bad_place text.now ≡ Some place }
 {
-    let mut bytes = Vec::new(alloc);
+    let mut bytes = Vec::with_capacity(alloc, text.len())?;
     let mut at = 0;
     while at < text.len() {
-        let byte = text[at];
-        if byte != b'%' {
-            if !is_printable(byte) {
+        let end = at + plain_run(&text[at..]);
+        bytes.extend_from_slice(&text[at..end])?;
+        at = end;
+        if at < text.len() {
+            let Some(byte) = escape_at_front(&text[at..]) else {
                 return Err(EscapeError::BadEscape(at));
-            }
+            };
             bytes.push(byte)?;
-            at += 1;
-        } else {
-            if text.len() - at < 3 || !is_hex_digit(text[at + 1]) || !is_hex_digit(text[at + 2]) {
-                return Err(EscapeError::BadEscape(at));
-            }
-            bytes.push(16 * hex_value(text[at + 1]) + hex_value(text[at + 2]))?;
             at += 3;
         }
     }

@@ -8,11 +8,18 @@ pub record Room : Type 0 where
   pub end : ℕ
   pub calls : ℕ
 
--- A call has used up at most one of the calls that there is room for.
-pub record UsesOneCall (old new : Room) : Type 0 where
+-- The first room is part of the second: on the same file no further end, and no more calls.
+pub record IsRoomWithin (part whole : Room) : Type 0 where
+  pub file : part.file ≡ whole.file
+  pub end : part.end ≤ whole.end
+  pub calls : part.calls ≤ whole.calls
+
+-- Calls have used up at most so many of those that there is room for, and made no new room.
+pub record UsesCalls (count : ℕ) (old new : Room) : Type 0 where
   pub file : new.file ≡ old.file
   pub end : new.end ≡ old.end
-  pub calls : old.calls ≤ new.calls + 1
+  pub calls : old.calls ≤ new.calls + count
+  pub no_more : new.calls ≤ old.calls
 
 -- Time goes on by at most one moment, and past moments stay as they were.
 -- So a crash inside a call finds the moment before the call or the one after it.

@@ -1,6 +1,6 @@
 -- One file at one moment, what a crash may leave of it, and what each call of a disk makes of it.
 -- The model is this project's own. It knows no order between writes: until a sync has succeeded, any part of them may be lost.
-use Rattle.std.specs.Prelude.{◌≡◌, ◌⊎◌, ◌<◌, ◌≤◌, ℕ, ◌+◌, min, max, List, [], ◌∷◌, length, take, slice_index, Option, MatchOption, IsSome}
+use Rattle.std.specs.Prelude.{◌≡◌, ◌⊎◌, ◌<◌, ◌≤◌, ℕ, ◌+◌, min, max, List, [], ◌∷◌, length, take, slice_index, Option, Some, MatchOption, IsSome}
 use Rattle.hx_etag.specs.declared.stat.Stat.{Stat}
 use Rattle.hx_disk.specs.Overlay.{overlaid}
 
@@ -93,6 +93,10 @@ pub record SameContent (old new : FileState) : Type 0 where
   pub written : new.written ≡ old.written
   pub least : new.least ≡ old.least
   pub greatest : new.greatest ≡ old.greatest
+
+-- the stat that a new modification time is to give
+abbrev pub asked_stat : ℕ → FileState → Option Stat
+asked_stat mtime old = Some record { mtime = mtime; size = length old.reading }
 
 -- After a crash that left this image: it is read, and it is stable.
 pub record Crashed (image : List ℕ) (new : FileState) : Type 0 where

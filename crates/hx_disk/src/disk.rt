@@ -1,6 +1,6 @@
-ghost use Rattle.std.specs.Prelude.{◌≡◌, ◌≤◌, ◌<◌, ℕ, ◌+◌, Bool, IsTrue, List, length, take, drop, Some, OnOk, OnErr, IfOk};
+ghost use Rattle.std.specs.Prelude.{◌≡◌, ◌⊎◌, ◌≤◌, ◌<◌, ℕ, ◌+◌, Bool, IsTrue, List, length, take, drop, OnOk, OnErr, IfOk};
 ghost use Rattle.hx_faults.specs.Faults.{HasCause};
-ghost use Rattle.hx_disk.specs.Disk.{Room, UsesOneCall, Elapses, ChangesOnly, ChangesNothing};
+ghost use Rattle.hx_disk.specs.Disk.{Room, UsesCalls, Elapses, ChangesOnly, ChangesNothing};
 
 use crate::file_no::FileNo;
 use hx_etag::Stat;
@@ -16,7 +16,7 @@ pub struct DiskFailed;
 /// memory beyond the room that was reserved, and changes nothing but the file that a call names. A disk that tells its
 /// content says besides what is read, and what a crash at each moment may leave. The rules are this project's own.
 pub trait Disk {
-    ghost use Rattle.hx_disk.specs.File.{FileState, IsImage, IsSound, Tried, Wrote, TriedCut, WasCut, Synced, SameContent, Crashed};
+    ghost use Rattle.hx_disk.specs.File.{FileState, IsImage, IsSound, Tried, Wrote, TriedCut, WasCut, Synced, SameContent, asked_stat, Crashed};
 
     /// Whether it tells its content. Where it doesn't, no clause speaks of what its files hold.
     ghost tells: { Bool };
@@ -40,9 +40,11 @@ pub trait Disk {
     ghost picked: { ℕ → FileState → List ℕ };
 
     /// Makes the room for the next calls, so many, in place of the room before: a `write_at`, a `cut` and a
-    /// `set_mtime` among them are on `file`, and a write reaches no further than `end`. A `sync` is on any file.
+    /// `set_mtime` among them are on `file`, and a write reaches no further than `end`. A `sync` is on any file. For want
+    /// of memory the room stays as it was.
     fn reserve(&mut self, file: FileNo, end: u64, calls: u32) -> Result<(), AllocError>
         ensures room { OnOk result (room self.new ≡ record { file = file; end = end; calls = calls }) }
+        ensures room_err { OnErr result (room self.new ≡ room self.old) }
         ensures unchanged { ChangesNothing time past now self.old self.new }
         ensures faults { failures self.new ≡ failures self.old };
 
@@ -71,7 +73,7 @@ pub trait Disk {
         ensures ok { IsTrue tells → OnOk result (Wrote at bytes.now (now self.old file) (now self.new file)) }
         ensures err { IsTrue tells → OnErr result (Tried at (length bytes.now) (now self.old file) (now self.new file)) }
         ensures only { ChangesOnly time past now file self.old self.new }
-        ensures room { UsesOneCall (room self.old) (room self.new) }
+        ensures room { UsesCalls 1 (room self.old) (room self.new) }
         ensures cause { HasCause (failures self.old) (failures self.new) result };
 
     /// Makes the file `len` bytes long, which is at most its length. After a failure it may have any length between.
@@ -82,7 +84,7 @@ pub trait Disk {
         ensures ok { IsTrue tells → OnOk result (WasCut len (now self.old file) (now self.new file)) }
         ensures err { IsTrue tells → OnErr result (TriedCut len (now self.old file) (now self.new file)) }
         ensures only { ChangesOnly time past now file self.old self.new }
-        ensures room { UsesOneCall (room self.old) (room self.new) }
+        ensures room { UsesCalls 1 (room self.old) (room self.new) }
         ensures cause { HasCause (failures self.old) (failures self.new) result };
 
     /// Brings what is read to the disk: after success a crash leaves nothing else. A failed sync changes nothing, and
@@ -92,17 +94,19 @@ pub trait Disk {
         ensures ok { IsTrue tells → OnOk result (Synced (now self.old file) (now self.new file)) }
         ensures err { IsTrue tells → OnErr result (now self.new file ≡ now self.old file) }
         ensures only { ChangesOnly time past now file self.old self.new }
-        ensures room { UsesOneCall (room self.old) (room self.new) }
+        ensures room { UsesCalls 1 (room self.old) (room self.new) }
         ensures cause { HasCause (failures self.old) (failures self.new) result };
 
-    /// Gives the file this modification time, and leaves its content as it is.
+    /// Gives the file this modification time, and leaves its content as it is. After a failure it may have the time or
+    /// not.
     fn set_mtime(&mut self, file: FileNo, mtime: u64) -> Result<(), DiskFailed>
         requires room_file { (room self.old).file ≡ file }
         requires room_calls { 0 < (room self.old).calls }
         ensures content { IsTrue tells → SameContent (now self.old file) (now self.new file) }
-        ensures ok { IsTrue tells → OnOk result ((now self.new file).stat ≡ Some (record { mtime = mtime; size = length (now self.old file).reading })) }
+        ensures ok { IsTrue tells → OnOk result ((now self.new file).stat ≡ asked_stat mtime (now self.old file)) }
+        ensures err { IsTrue tells → OnErr result (((now self.new file).stat ≡ (now self.old file).stat) ⊎ ((now self.new file).stat ≡ asked_stat mtime (now self.old file))) }
         ensures only { ChangesOnly time past now file self.old self.new }
-        ensures room { UsesOneCall (room self.old) (room self.new) }
+        ensures room { UsesCalls 1 (room self.old) (room self.new) }
         ensures cause { HasCause (failures self.old) (failures self.new) result };
 
     /// Leaves of each file the image that the pick names, stable. It ends the room. It isn't a call on a file, and

@@ -1,6 +1,6 @@
 ghost use Rattle.std.specs.Prelude.{◌≡◌, ◌≢◌, ◌≤◌, ◌<◌, ℕ, ◌+◌, IsTrue, IsErrOf, List, length, OnOk};
 ghost use Rattle.hx_faults.specs.Faults.{HasCause, Rose};
-ghost use Rattle.hx_disk.specs.Disk.{Through, Left};
+ghost use Rattle.hx_disk.specs.Disk.{Through, Left, UsesCalls};
 ghost use Rattle.hx_disk.specs.File.{IsImage};
 ghost use Rattle.hx_disk_laws.specs.Client.{IsShut, OnTheWay};
 ghost use Rattle.hx_disk_laws.specs.declared.client.ShutError.TheVariants.{Failed, NoMemory};
@@ -42,7 +42,7 @@ pub fn shut<D: Disk>(disk: &mut D, file: FileNo) -> Result<(), DiskFailed>
     requires room_calls { 2 ≤ (D.room disk.old).calls }
     ensures ok { IsTrue D.tells → OnOk result (IsShut (D.now disk.new file)) }
     ensures each { IsTrue D.tells → Through D.time D.past file (OnTheWay (D.now disk.old file)) disk.old disk.new }
-    ensures room { (D.room disk.old).calls ≤ (D.room disk.new).calls + 2 }
+    ensures room { UsesCalls 2 (D.room disk.old) (D.room disk.new) }
     ensures cause { HasCause (D.failures disk.old) (D.failures disk.new) result }
 {
     disk.write_at(file, 0, &[0])?;

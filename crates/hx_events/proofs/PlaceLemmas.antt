@@ -1,10 +1,13 @@
 -- A list of distinct names stays so when a new one is added.
-use Rattle.std.proofs.Common.{◌≡◌, ℕ, ◌+◌, ◌<◌, ◌≤◌, Bool, true, false, cond, List, [], ◌∷◌, ◌++◌, length, length-append, Some, None, refl, ap, sym, subst, ◌∙◌, arith}
+use Rattle.std.proofs.Common.{◌≡◌, ℕ, ◌+◌, ◌<◌, ◌≤◌, Bool, true, false, cond, List, [], ◌∷◌, ◌++◌, length, length-append, Some, None, refl, ap, sym, subst, ◌∙◌, arith, ◌||◌, nat_lt, if◌then◌else◌, Vec, Result, Ok, Err, IfOk}
+use Rattle.std.specs.Global.{Global}
 use Rattle.std.specs.Prelude.{bytes_eq}
 use Rattle.std.specs.Bool.{one_answer}
-use Rattle.std.specs.List.{position_from}
+use Rattle.std.specs.List.{position_from, position_or_len, list_any}
+use Rattle.std.proofs.lemmas.Iterator.Adapters.{position_from-zero}
+use Rattle.std.proofs.lemmas.List.{map-append}
 use Rattle.std.proofs.lemmas.Slice.Eq.{bytes_eq-Decides}
-use Rattle.hx_events.specs.Places.{is_named, place_of, IsDistinct}
+use Rattle.hx_events.specs.Places.{texts_of, is_named, place_of, IsDistinct}
 
 -- a test of bytes doesn't ask in which order they are given
 pub bytes_eq-sym : (xs ys : List ℕ) → bytes_eq xs ys ≡ bytes_eq ys xs
@@ -61,3 +64,40 @@ names_push xs ys old y z grown is same new room names =
 
 pub names_same : (xs ys : List (List ℕ)) → ys ≡ xs → AreNames xs → AreNames ys
 names_same xs ys same names = subst AreNames (sym same) names
+
+-- The table of names that are kept finds a name where the list has it.
+module _ (r : List ℕ) (test : Vec ℕ Global → Bool) (tests_name : (name : Vec ℕ Global) → test name ≡ is_named r name.items) where
+  place_from : (i : ℕ) (names : List (Vec ℕ Global)) → position_from test i names ≡ position_from (is_named r) i (texts_of names)
+  place_from i [] = refl
+  place_from i (name ∷ names) =
+      ap (λ b. cond b (Some i) (position_from test (i + 1) names)) (tests_name name)
+      ∙ ap (λ found. cond (is_named r name.items) (Some i) found) (place_from (i + 1) names)
+
+  pub found_place : (names : List (Vec ℕ Global)) → cond (nat_lt (position_or_len test names) (length names)) (Some (position_or_len test names)) None ≡ place_of r (texts_of names)
+  found_place names = position_from-zero test names ∙ place_from 0 names
+
+  pub none_there : (i : ℕ) (names : List (Vec ℕ Global)) → position_from (is_named r) i (texts_of names) ≡ None → list_any test names ≡ false
+  none_there i [] none = refl
+  none_there i (name ∷ names) none =
+      ap (λ b. b || list_any test names) (tests_name name ∙ head_other r name.items i (texts_of names) none)
+      ∙ none_there (i + 1) names (tail_none r name.items i (texts_of names) none)
+
+-- a test of bytes in the other order
+pub named_is : (r : List ℕ) (name : Vec ℕ Global) → bytes_eq r name.items ≡ is_named r name.items
+named_is r name = bytes_eq-sym r name.items
+
+pub texts_push : (names : List (Vec ℕ Global)) (name : Vec ℕ Global) → texts_of (names ++ name ∷ []) ≡ texts_of names ++ name.items ∷ []
+texts_push names name = map-append (λ (n : Vec ℕ Global). n.items) names (name ∷ [])
+
+-- a new name goes to the end of the table
+pub table_push : (names new : List (Vec ℕ Global)) (name : Vec ℕ Global) (there : Bool) → there ≡ false → new ≡ (if there then names else names ++ name ∷ []) → texts_of new ≡ texts_of names ++ name.items ∷ []
+table_push names new name there absent is = ap texts_of (is ∙ ap (λ b. if b then names else names ++ name ∷ []) absent) ∙ texts_push names name
+
+-- what a success gives, where nothing of its value is asked
+pub if_ok : {A E : Type 0} (P : Type 0) (result : Result A E) → P → IfOk result (λ x. P)
+if_ok P (Ok x) holds = holds
+if_ok P (Err e) holds = tt
+
+pub if_failed : {A E : Type 0} (P : Type 0) (result : Result A E) (e : E) → result ≡ Err e → IfOk result (λ x. P)
+if_failed P (Ok x) e failed = absurd cc
+if_failed P (Err f) e failed = tt

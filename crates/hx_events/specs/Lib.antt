@@ -1,4 +1,5 @@
 pub mod Places
+pub mod Resources
 pub mod Texts
 pub mod Fields
 pub mod Lines

@@ -1,6 +1,11 @@
 -- The places of resources in a list of names.
-use Rattle.std.specs.Prelude.{◌≡◌, ℕ, Bool, List, [], ◌∷◌, Option, None, bytes_eq}
+use Rattle.std.specs.Prelude.{◌≡◌, ℕ, Bool, List, [], ◌∷◌, Option, None, bytes_eq, map, Vec}
+use Rattle.std.specs.Global.{Global}
 use Rattle.std.specs.List.{position_from}
+
+-- the texts that are kept
+abbrev pub texts_of : List (Vec ℕ Global) → List (List ℕ)
+texts_of names = map (λ name. name.items) names
 
 -- is the name this resource?
 abbrev pub is_named : List ℕ → List ℕ → Bool

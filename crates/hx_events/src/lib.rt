@@ -10,6 +10,7 @@ mod life;
 mod names;
 mod numbers;
 mod outcome;
+mod resource;
 #[cfg(test)]
 mod tests;
 mod texts;
@@ -23,4 +24,5 @@ pub use life::{Ended, Entry, Life};
 pub use names::Names;
 pub use numbers::{PairNo, ResNo};
 pub use outcome::Outcome;
+pub use resource::is_resource;
 pub use texts::{line, outcome_text};

@@ -1,27 +1,28 @@
 //! The resources of a life, by number.
 
-ghost use Rattle.std.specs.Prelude.{◌≡◌, ◌<◌, ◌++◌, [], ◌∷◌, length, IfOk, IfErr, OnErr, Option, Some, None, IsNone, slice_get};
-ghost use Rattle.hx_events.specs.Places.{place_of};
+ghost use Rattle.std.specs.Prelude.{◌≡◌, ◌<◌, ◌++◌, [], ◌∷◌, length, map, IfOk, IfErr, OnErr, Option, Some, None, IsNone, slice_get};
+ghost use Rattle.hx_events.specs.Places.{place_of, texts_of};
 
-use crate::{Bytes, ResNo};
+use crate::ResNo;
+use indexmap::IndexSet;
 use std::alloc::Global;
 use std::marker::Model;
 
 /// A list of distinct resources, at most 256. Contracts see the list; a resource's number is its place in it.
 #[derive(Drop)]
 pub struct Names {
-    items: Vec<Bytes>,
+    set: IndexSet<Vec<u8>>,
 }
 
 impl Model for Names {
     ghost use Rattle.std.specs.Prelude.{ℕ, List, ◌≤◌, length};
-    ghost use Rattle.hx_events.specs.Places.{IsDistinct};
+    ghost use Rattle.hx_events.specs.Places.{IsDistinct, texts_of};
 
     ghost Value = { List (List ℕ) };
 
-    ghost view = { λ n. n.items.items };
+    ghost view = { λ n. texts_of n.set.keys };
 
-    ghost invariant = { λ n. (length n.items.items ≤ 256) × IsDistinct n.items.items };
+    ghost invariant = { λ n. (length (texts_of n.set.keys) ≤ 256) × IsDistinct (texts_of n.set.keys) };
 }
 
 impl Names {
@@ -29,14 +30,14 @@ impl Names {
         ensures { result ≡ [] }
     {
         Names {
-            items: Vec::new(alloc),
+            set: IndexSet::new(alloc),
         }
     }
 
     pub fn len(&self) -> usize
         ensures { result ≡ length self.now }
     {
-        self.items.len()
+        self.set.len()
     }
 
     /// Adds a resource at the end. For want of memory the resource is handed back, and the list is as before.
@@ -48,30 +49,27 @@ impl Names {
         ensures returned { IfErr result (λ back. back.items ≡ resource.items) }
         ensures unchanged { OnErr result (self.new ≡ self.old) }
     {
-        let number = self.items.len();
-        match self.items.push(Bytes::new(resource)) {
-            Ok(()) => Ok(ResNo::new(number as u32)),
-            Err(failed) => Err(failed.value.into_vec()),
+        let number = self.set.len();
+        match self.set.insert(resource) {
+            Ok(_) => Ok(ResNo::new(number as u32)),
+            Err(failed) => Err(failed.value),
         }
     }
 
-    /// The number of a resource, None exactly where it isn't in the list.
+    /// The number of a resource, None exactly where it isn't in the list. It costs a look-up in a table, not a walk
+    /// through the list.
     pub fn find(&self, resource: &[u8]) -> Option<ResNo>
         ensures { result ≡ place_of resource.now self.now }
     {
-        for (number, name) in self.items.iter().enumerate() {
-            if name.as_slice() == resource {
-                return Some(ResNo::new(number as u32));
-            }
-        }
-        None
+        let number = self.set.get_index_of(resource)?;
+        Some(ResNo::new(number as u32))
     }
 
     fn text_at(&self, res: ResNo) -> &[u8]
         requires { res < length self.now }
         ensures { slice_get self.now res ≡ Some result.now }
     {
-        self.items[res.number() as usize].as_slice()
+        self.set.as_slice()[res.number() as usize].as_slice()
     }
 
     /// The resource with this number, which `find` gives back.
@@ -80,7 +78,7 @@ impl Names {
         ensures text { slice_get self.now res ≡ Some result.now }
         ensures found { place_of result.now self.now ≡ Some res }
     {
-        let _ = &self.items;
+        let _ = &self.set;
         self.text_at(res)
     }
 }

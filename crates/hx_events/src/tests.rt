@@ -2,8 +2,8 @@ ghost use Rattle.std.specs.Prelude.{◌<◌, length, IfOk};
 ghost use Rattle.hx_events.specs.Texts.{IsEventOf, IsOutcomeOf};
 
 use crate::{
-    Actor, Bytes, Command, Event, Items, Names, Outcome, ResNo, Side, SlotForm, Stage, line,
-    outcome_text,
+    Actor, Bytes, Command, Event, Items, Names, Outcome, ResNo, Side, SlotForm, Stage, is_resource,
+    line, outcome_text,
 };
 use hx_etag::Stat;
 use std::alloc::Global;
@@ -29,6 +29,43 @@ fn names_are_found_by_their_text(rt: HostRuntime) -> Result<(), Fail> {
     assert_eq!(rt; names.text(res), b"file:///a".as_slice());
     assert_eq!(rt; names.find(b"file:///a"), Some(res));
     assert_eq!(rt; names.find(b"file:///"), None);
+    Ok(())
+}
+
+// as many names as there may be, each of one byte, and then none is missing
+#[test]
+fn a_list_takes_256_names(rt: HostRuntime) -> Result<(), Fail> {
+    let alloc = rt.alloc();
+    let mut names = Names::new(alloc);
+    for byte in 0..=255u8 {
+        let name = Vec::from_slice(alloc, &[byte])?;
+        assert!(rt; names.len() == usize::from(byte) && names.find(&[byte]).is_none());
+        assert!(rt; names.add(name).is_ok());
+    }
+    assert_eq!(rt; names.len(), 256);
+    for byte in 0..=255u8 {
+        assert_eq!(rt;
+            names.find(&[byte]).map(|res| res.number()),
+            Some(u32::from(byte))
+        );
+    }
+    Ok(())
+}
+
+#[test]
+fn a_resource_has_1_to_1000_printable_bytes(rt: HostRuntime) -> Result<(), Fail> {
+    for (length, byte, names) in [
+        (0, b'a', false),
+        (1, b'!', true),
+        (1000, b'~', true),
+        (1001, b'a', false),
+        (3, b' ', false),
+        (3, 0x7F, false),
+        (3, 0xFF, false),
+    ] {
+        let text = vec![in rt.alloc(); byte; length]?;
+        assert_eq!(rt; is_resource(&text), names, "{length} bytes {byte}");
+    }
     Ok(())
 }
 

@@ -1,6 +1,8 @@
-ghost use Rattle.std.specs.Prelude.{false, ◌≡◌, ◌≤◌, ◌↔◌, ◌+◌, ◌-◌, ◌*◌, ◌^◌, min, Bool, IsTrue, if◌then◌else◌};
+ghost use Rattle.std.specs.Prelude.{true, false, ◌≡◌, ◌≤◌, ◌↔◌, ◌+◌, ◌-◌, ◌*◌, ◌^◌, min, Bool, IsTrue, if◌then◌else◌};
 ghost use Rattle.hx_faults.specs.Faults.{Rose};
 ghost use Rattle.hx_memdisk.specs.Plan.{Fails};
+
+use hx_faults::raised;
 
 /// Which device calls of a disk fail. The calls are numbered from 1 since the disk was made or last crashed.
 #[derive(Drop)]
@@ -50,11 +52,12 @@ impl Course {
         ensures counted { self.new ≡ called result self.old }
         ensures later { self.old.faults ≤ self.new.faults }
         ensures rose { result ≡ false → Rose self.old.faults self.new.faults }
+        ensures kept { result ≡ true → self.new.faults ≡ self.old.faults }
     {
         self.calls = self.calls.saturating_add(1);
         let ok = self.plan.allows(self.calls);
         if !ok {
-            self.faults = self.faults.saturating_add(1);
+            self.faults = raised(self.faults);
         }
         ok
     }

@@ -37,6 +37,7 @@ pub struct MemDisk {
 }
 
 impl MemDisk {
+    ghost use Rattle.std.specs.Prelude.{OnErr};
     ghost use Rattle.hx_memdisk.specs.MemDisk.{files_of, recorded, course_of, room_of};
 
     /// A disk on which no file exists, all is synced and no fault has come. It has no room yet.
@@ -64,6 +65,31 @@ impl MemDisk {
         })
     }
 
+    // The room for so many calls that write up to this end.
+    fn make_room(&mut self, number: u32, end: u64, calls: u32) -> Result<(), AllocError>
+        requires known { number < 384 }
+        ensures room { OnOk result (room_of self.new ≡ record { file = number; end = end; calls = calls }) }
+        ensures room_err { OnErr result (room_of self.new ≡ room_of self.old) }
+        ensures events { events_of self.new.log ≡ events_of self.old.log }
+        ensures course { course_of self.new ≡ course_of self.old }
+    {
+        let Some(bytes) = (calls as usize).checked_mul(end as usize) else {
+            return Err(AllocError);
+        };
+        match self.log.reserve(calls as usize, bytes) {
+            Ok(()) => {}
+            Err(error) => return Err(error),
+        }
+        match reserve_file(&mut self.files, number as usize, end as usize) {
+            Ok(()) => {}
+            Err(error) => return Err(error),
+        }
+        self.room_file = number;
+        self.room_end = end;
+        self.room_calls = calls;
+        Ok(())
+    }
+
     /// What a read of the whole file finds.
     pub fn bytes(&self, file: FileNo) -> &[u8]
         ensures { result.now ≡ (files_of self.now file).reading }
@@ -73,12 +99,12 @@ impl MemDisk {
 }
 
 impl Disk for MemDisk {
-    ghost use Rattle.std.specs.Prelude.{◌↔◌, IsErr, OnErr, MatchResult, is_ok, drop, Some};
+    ghost use Rattle.std.specs.Prelude.{◌↔◌, ◌⊎◌, IsOk, IsErr, OnErr, MatchResult, is_ok, drop};
     ghost use Rattle.std.proofs.lemmas.List.{take_all};
     ghost use Rattle.std.proofs.Common.{ap, arith};
     ghost use Rattle.hx_faults.specs.Faults.{HasCause};
-    ghost use Rattle.hx_disk.specs.Disk.{Elapses, ChangesOnly, ChangesNothing, UsesOneCall};
-    ghost use Rattle.hx_disk.specs.File.{Wrote, Tried, WasCut, TriedCut, Synced, SameContent, Crashed};
+    ghost use Rattle.hx_disk.specs.Disk.{Elapses, ChangesOnly, ChangesNothing, UsesCalls, IsRoomWithin};
+    ghost use Rattle.hx_disk.specs.File.{Wrote, Tried, WasCut, TriedCut, Synced, SameContent, asked_stat, Crashed};
     ghost use Rattle.hx_memdisk.specs.Course.{FailsNext, StartsAnew, next_mtime, called, wrote};
     ghost use Rattle.hx_memdisk.specs.MemDisk.{files_of, past_of, recorded, course_of, faults_of, room_of};
     ghost use Rattle.hx_memdisk.specs.Replay.{write_after, cut_after, sync_after, mtime_after, crash_after};
@@ -106,29 +132,22 @@ impl Disk for MemDisk {
 
     fn reserve(&mut self, file: FileNo, end: u64, calls: u32) -> Result<(), AllocError>
         ensures room { OnOk result (room_of self.new ≡ record { file = file; end = end; calls = calls }) }
+        ensures room_err { OnErr result (room_of self.new ≡ room_of self.old) }
         ensures unchanged { ChangesNothing recorded past_of files_of self.old self.new }
         ensures faults { faults_of self.new ≡ faults_of self.old }
 
-        // It has no number, and after want of memory there is the room from before.
+        // It has no number. Where the room is there already it succeeds.
         ensures course { course_of self.new ≡ course_of self.old }
-        ensures room_err { OnErr result (room_of self.new ≡ room_of self.old) }
+        ensures there { IsRoomWithin (record { file = file; end = end; calls = calls }) (room_of self.old) → IsOk result }
     {
         let number = file.number();
-        let Some(bytes) = (calls as usize).checked_mul(end as usize) else {
-            return Err(AllocError);
-        };
-        match self.log.reserve(calls as usize, bytes) {
-            Ok(()) => {}
-            Err(error) => return Err(error),
+        if number == self.room_file && end <= self.room_end && calls <= self.room_calls {
+            self.room_end = end;
+            self.room_calls = calls;
+            Ok(())
+        } else {
+            self.make_room(number, end, calls)
         }
-        match reserve_file(&mut self.files, number as usize, end as usize) {
-            Ok(()) => {}
-            Err(error) => return Err(error),
-        }
-        self.room_file = number;
-        self.room_end = end;
-        self.room_calls = calls;
-        Ok(())
     }
 
     fn stat(&mut self, file: FileNo) -> Result<Option<Stat>, DiskFailed>
@@ -176,7 +195,7 @@ impl Disk for MemDisk {
         ensures ok { OnOk result (Wrote at bytes.now (files_of self.old file) (files_of self.new file)) }
         ensures err { OnErr result (Tried at (length bytes.now) (files_of self.old file) (files_of self.new file)) }
         ensures only { ChangesOnly recorded past_of files_of file self.old self.new }
-        ensures room { UsesOneCall (room_of self.old) (room_of self.new) }
+        ensures room { UsesCalls 1 (room_of self.old) (room_of self.new) }
         ensures cause { HasCause (faults_of self.old) (faults_of self.new) result }
 
         // It fails where the plan says so, has then written its first half, and is recorded either way.
@@ -206,7 +225,7 @@ impl Disk for MemDisk {
         ensures ok { OnOk result (WasCut len (files_of self.old file) (files_of self.new file)) }
         ensures err { OnErr result (TriedCut len (files_of self.old file) (files_of self.new file)) }
         ensures only { ChangesOnly recorded past_of files_of file self.old self.new }
-        ensures room { UsesOneCall (room_of self.old) (room_of self.new) }
+        ensures room { UsesCalls 1 (room_of self.old) (room_of self.new) }
         ensures cause { HasCause (faults_of self.old) (faults_of self.new) result }
 
         // It fails where the plan says so, has then changed nothing that is read, and is recorded either way.
@@ -239,7 +258,7 @@ impl Disk for MemDisk {
         ensures ok { OnOk result (Synced (files_of self.old file) (files_of self.new file)) }
         ensures err { OnErr result (files_of self.new file ≡ files_of self.old file) }
         ensures only { ChangesOnly recorded past_of files_of file self.old self.new }
-        ensures room { UsesOneCall (room_of self.old) (room_of self.new) }
+        ensures room { UsesCalls 1 (room_of self.old) (room_of self.new) }
         ensures cause { HasCause (faults_of self.old) (faults_of self.new) result }
 
         // It fails where the plan says so, and is recorded either way.
@@ -261,9 +280,10 @@ impl Disk for MemDisk {
         requires room_file { (room_of self.old).file ≡ file }
         requires room_calls { 0 < (room_of self.old).calls }
         ensures content { SameContent (files_of self.old file) (files_of self.new file) }
-        ensures ok { OnOk result ((files_of self.new file).stat ≡ Some (record { mtime = mtime; size = length (files_of self.old file).reading })) }
+        ensures ok { OnOk result ((files_of self.new file).stat ≡ asked_stat mtime (files_of self.old file)) }
+        ensures err { OnErr result (((files_of self.new file).stat ≡ (files_of self.old file).stat) ⊎ ((files_of self.new file).stat ≡ asked_stat mtime (files_of self.old file))) }
         ensures only { ChangesOnly recorded past_of files_of file self.old self.new }
-        ensures room { UsesOneCall (room_of self.old) (room_of self.new) }
+        ensures room { UsesCalls 1 (room_of self.old) (room_of self.new) }
         ensures cause { HasCause (faults_of self.old) (faults_of self.new) result }
 
         // It fails where the plan says so, has then changed nothing, and is recorded either way.

@@ -1,6 +1,6 @@
 ghost use Rattle.std.specs.Prelude.{◌≡◌, ◌≤◌, ◌+◌, ◌*◌, length, All, IfOk};
 ghost use Rattle.serde_json.specs.View.{view};
-ghost use Rattle.hx_meta.specs.Metas.{IsPrintable, StatFits, base_of, type_id_of, meta_in, meta_text, object_of, with_base_of};
+ghost use Rattle.hx_meta.specs.Metas.{IsPrintable, base_of, type_id_of, meta_in, meta_text, object_of, with_base_of};
 ghost use Rattle.hx_meta.specs.declared.object.MetaError.TheVariants.{NotMeta};
 
 use hx_etag::{Stat, etag};
@@ -102,7 +102,6 @@ fn with_base(alloc: Global, etag: &str, stat: Stat, type_id: &str) -> Result<Val
 #[tactic(auto, using(crate::proofs::Lines::also_blank))]
 fn value_of(alloc: Global, base: Option<Stat>, type_id: &str) -> Result<Value, AllocError>
     ensures object { IfOk result (λ value. view value ≡ object_of base type_id.now) }
-    ensures fits { StatFits base }
 {
     match base {
         Some(stat) => {
@@ -113,9 +112,20 @@ fn value_of(alloc: Global, base: Option<Stat>, type_id: &str) -> Result<Value, A
     }
 }
 
+#[tactic(auto, using(crate::proofs::Objects::no_float, crate::proofs::Objects::shallow))]
+fn written(alloc: Global, base: Option<Stat>, type_id: &[u8]) -> Result<Vec<u8>, AllocError>
+    requires { All IsPrintable type_id.now }
+    ensures text { IfOk result (λ text. text.items ≡ meta_text (record { base = base; type_id = type_id.now })) }
+    ensures printable { IfOk result (λ text. All IsPrintable text.items) }
+    ensures short { IfOk result (λ text. length text.items ≤ 200 + 2 * length type_id.now) }
+    ensures read_back { IfOk result (λ text. meta_in text.items ≡ Some (record { base = base; type_id = type_id.now })) }
+{
+    let value = value_of(alloc, base, ascii(type_id))?;
+    Ok(value.to_string(alloc)?.into_bytes())
+}
+
 /// Writes the meta object without blanks, with the keys `etag`, `mtime`, `size` and `typeId` in that order, and without
 /// a base with `typeId` alone. The text is one line.
-#[tactic(auto, using(crate::proofs::Objects::no_float, crate::proofs::Objects::shallow))]
 pub fn write(alloc: Global, meta: &Meta) -> Result<Vec<u8>, AllocError>
     requires { All IsPrintable meta.now.type_id }
     ensures text { IfOk result (λ text. text.items ≡ meta_text meta.now) }
@@ -125,6 +135,5 @@ pub fn write(alloc: Global, meta: &Meta) -> Result<Vec<u8>, AllocError>
     // `read` reads it back.
     ensures read_back { IfOk result (λ text. meta_in text.items ≡ Some meta.now) }
 {
-    let value = value_of(alloc, meta.base, ascii(meta.type_id.as_slice()))?;
-    Ok(value.to_string(alloc)?.into_bytes())
+    written(alloc, meta.base, meta.type_id.as_slice())
 }

@@ -1,5 +1,5 @@
 -- What is written of a backup reads as that backup.
-use Rattle.std.proofs.Common.{◌≡◌, ◌≢◌, ◌<◌, ◌≤◌, ℕ, suc, ◌+◌, ◌-◌, Bool, true, false, ◌&&◌, not, List, [], ◌∷◌, ◌++◌, length, take, drop, Option, Some, None, Result, Ok, Err, refl, sym, ◌∙◌, ap, arith, lit≤, append_assoc, cond}
+use Rattle.std.proofs.Common.{◌≡◌, ◌≢◌, ◌<◌, ◌≤◌, ℕ, suc, ◌+◌, ◌-◌, Bool, true, false, ◌&&◌, List, [], ◌∷◌, ◌++◌, length, take, drop, Option, Some, Result, Ok, Err, refl, sym, ◌∙◌, ap, arith, lit≤, append_assoc}
 use Rattle.std.specs.Prelude.{◌==◌, All, IfOk, nat_le, nat_lt}
 use Rattle.std.specs.Char.{is_ascii_graphic}
 use Rattle.std.specs.List.{list_all, position_or_len}
@@ -12,7 +12,8 @@ use Rattle.hx_events.specs.declared.backup.Backup.{Backup}
 use Rattle.hx_events.specs.declared.backup.SlotForm.{SlotForm}
 use Rattle.hx_events.specs.declared.backup.SlotForm.TheVariants.{One, Two}
 use Rattle.hx_meta.specs.Metas.{IsPrintable, meta_in}
-use Rattle.hx_record.specs.Records.{is_resource, place_in, content_limit, is_own_type, backup_of, line_read, split_read, record_in}
+use Rattle.hx_events.specs.Resources.{is_resource}
+use Rattle.hx_record.specs.Records.{place_in, content_limit, is_own_type, backup_of, line_read, split_read, record_in}
 
 opened : (form : SlotForm) (bytes : List ℕ) → record_in form bytes ≡ split_read form bytes (place_in 10 (take 10000 bytes))
 unfolding record_in

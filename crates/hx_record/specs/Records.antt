@@ -1,21 +1,17 @@
 -- The bytes of a backup, and what bytes read as one. The layout is that of VS Code's backup files: the resource, one
 -- blank, a JSON object with the meta, a line feed that is looked for in the first 10,000 bytes, and the content. The
 -- limits and the two slot forms are this project's own.
-use Rattle.std.specs.Prelude.{ℕ, ◌+◌, ◌≤◌, Bool, true, ◌==◌, ◌&&◌, nat_le, if◌then◌else◌, List, [], ◌∷◌, ◌++◌, length, take, drop, Option, Some, None, Result, Ok, Err}
-use Rattle.std.specs.Char.{is_ascii_graphic}
-use Rattle.std.specs.List.{list_all, position}
+use Rattle.std.specs.Prelude.{ℕ, ◌+◌, Bool, true, ◌==◌, nat_le, if◌then◌else◌, List, [], ◌∷◌, ◌++◌, length, take, drop, Option, Some, None, Result, Ok, Err}
+use Rattle.std.specs.List.{position}
 use Rattle.hx_events.specs.declared.backup.Backup.{Backup}
 use Rattle.hx_events.specs.declared.backup.SlotForm.{SlotForm}
 use Rattle.hx_events.specs.declared.backup.SlotForm.TheVariants.{One, Two}
 use Rattle.hx_events.specs.declared.backup.TheConstants.{CONTENT_MAX}
+use Rattle.hx_events.specs.Resources.{is_resource}
 use Rattle.hx_meta.specs.declared.object.Meta.{Meta}
 use Rattle.hx_meta.specs.Metas.{meta_in, meta_text}
 use Rattle.hx_record.specs.declared.error.RecordError.{RecordError}
 use Rattle.hx_record.specs.declared.error.RecordError.TheVariants.{NoLineFeed, BadResource, NotMeta, OtherType, TooLong}
-
--- a resource: 1 to 1,000 printable bytes without a blank
-abbrev pub is_resource : List ℕ → Bool
-is_resource text = nat_le 1 (length text) && nat_le (length text) 1000 && list_all is_ascii_graphic text
 
 -- the place of the first such byte
 abbrev pub place_in : ℕ → List ℕ → Option ℕ

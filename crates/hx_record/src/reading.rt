@@ -1,12 +1,10 @@
 ghost use Rattle.std.specs.Prelude.{◌≡◌, ◌≢◌, ◌<◌, ◌≤◌, length, take, IfSome, IfOk, IfErr};
-ghost use Rattle.std.specs.List.{list_all};
-ghost use Rattle.std.specs.Char.{is_ascii_graphic};
 ghost use Rattle.hx_meta.specs.Metas.{meta_in};
-ghost use Rattle.hx_record.specs.Records.{is_resource, place_in, content_limit, backup_of, line_read, record_in};
+ghost use Rattle.hx_record.specs.Records.{place_in, content_limit, backup_of, line_read, record_in};
 ghost use Rattle.hx_record.specs.declared.error.RecordError.TheVariants.{NoMemory};
 
 use crate::RecordError;
-use hx_events::{Backup, Bytes, CONTENT_MAX, SlotForm};
+use hx_events::{Backup, Bytes, CONTENT_MAX, SlotForm, is_resource};
 use hx_meta::{MetaError, read};
 use std::alloc::Global;
 
@@ -20,18 +18,6 @@ fn limit_of(form: SlotForm) -> usize
         SlotForm::One => 262_144,
         SlotForm::Two => CONTENT_MAX as usize,
     }
-}
-
-fn is_printable(text: &[u8]) -> bool
-    ensures { result ≡ list_all is_ascii_graphic text.now }
-{
-    text.iter().all(|byte| byte.is_ascii_graphic())
-}
-
-fn names_resource(text: &[u8]) -> bool
-    ensures { result ≡ is_resource text.now }
-{
-    (1..=1000).contains(&text.len()) && is_printable(text)
 }
 
 fn place_of(byte: u8, bytes: &[u8]) -> Option<usize>
@@ -102,7 +88,7 @@ fn read_line(
     let Some(blank) = place_of(b' ', line) else {
         return Err(RecordError::BadResource);
     };
-    if !names_resource(&line[..blank]) {
+    if !is_resource(&line[..blank]) {
         return Err(RecordError::BadResource);
     }
     read_parts(alloc, form, &line[..blank], &line[blank + 1..], content)

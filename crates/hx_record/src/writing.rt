@@ -1,6 +1,7 @@
 ghost use Rattle.std.specs.Prelude.{◌≡◌, ◌≤◌, ◌+◌, ◌∷◌, ◌++◌, length, IfOk, IsTrue};
 ghost use Rattle.hx_events.specs.declared.backup.TheConstants.{CONTENT_MAX};
-ghost use Rattle.hx_record.specs.Records.{is_resource, encoded, record_in, content_limit};
+ghost use Rattle.hx_events.specs.Resources.{is_resource};
+ghost use Rattle.hx_record.specs.Records.{encoded, record_in, content_limit};
 
 use hx_events::{Backup, Bytes, SlotForm};
 use hx_meta::{Meta, write};
@@ -26,7 +27,7 @@ fn joined(
     Ok(bytes)
 }
 
-/// The bytes of a backup. `decode` reads them back in form Two, and in form One where the content isn't too long for it.
+/// The bytes of a backup, whose resource is one by `is_resource`. `decode` reads them back in form Two, and in form One where the content isn't too long for it.
 pub fn encode(alloc: Global, backup: &Backup) -> Result<Vec<u8>, AllocError>
     requires resource { IsTrue (is_resource backup.now.resource) }
     requires content { length backup.now.content ≤ CONTENT_MAX }

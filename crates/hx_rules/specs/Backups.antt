@@ -35,7 +35,8 @@ prepared_base_after (StageOk Prepare v) now was = now
 prepared_base_after _ now was = was
 
 module _ (restored : Option Backup) where
-  -- the stat that the copy kept at the last completed Prepare
+  -- The stat that the copy kept at the last completed Prepare. Without one it is none; in a legal history each Open has a
+  -- Prepare before it.
   abbrev pub prepared_base : List Deed → Option Stat
   prepared_base [] = None
   prepared_base (d ∷ ds) = prepared_base_after d.outcome (kept restored ds) (prepared_base ds)

@@ -19,11 +19,21 @@ pub record VaultWork : Type 0 where
 abbrev pub vault_work : Stage → ℕ → VaultWork
 vault_work stage version = record { stage = stage; version = version }
 
+-- the stage of what is due, and its version
+abbrev pub stage_due : Option VaultWork → Option Stage
+stage_due None = None
+stage_due (Some w) = Some w.stage
+
+-- Where nothing is due the version is 0, as it is of a Fade and a Drop.
+abbrev pub version_due : Option VaultWork → ℕ
+version_due None = 0
+version_due (Some w) = w.version
+
 -- The next stage of a begun backup: Body while a block is left to write, then Open.
 abbrev pub next_stage : Begun → Stage
 next_stage b = if nat_lt b.blocks (blocks_of b.size) then Body else Open
 
--- the version of the running save, or 0
+-- The version of the running save. Where none runs, 0, which is no version's id: who asks has a running save in hand.
 abbrev pub run_version : Option Running → ℕ
 run_version None = 0
 run_version (Some run) = run.version
@@ -97,7 +107,7 @@ next_stage_of None = None
 next_stage_of (Some b) = Some (next_stage b)
 
 module _ (restored : Option Backup) (guarded : Bool) where
-  -- the flags of a copy after its deeds
+  -- The flags of a copy after its deeds. Held and safe speak of the running save of a guarded life: without one neither is set.
   abbrev pub flags_of : List Deed → Flags
   flags_of ds = record {
     dirty = dirty restored ds;
@@ -107,6 +117,6 @@ module _ (restored : Option Backup) (guarded : Bool) where
     opened = opened restored ds;
     faded = faded ds;
     held = held restored guarded ds;
-    safe = safe (running_version restored guarded ds) ds;
+    safe = held restored guarded ds && safe (running_version restored guarded ds) ds;
     keep = guarded && write_failed ds;
   }

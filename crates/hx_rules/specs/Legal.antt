@@ -49,7 +49,8 @@ is_barred _ = false
 abbrev pub opening_of : List (List ℕ) → List PairFound → Bool → Opening
 opening_of names pairs guarded = record { restored = map (λ name. found_backup name pairs) names; barred = count_by is_barred pairs; guarded = guarded }
 
--- the backup that the resource c was restored with, if it was
+-- The backup that the resource c was restored with, if it was. A number past the life's resources has none; no entry of a
+-- life names one.
 abbrev pub restored_at : Opening → ℕ → Option Backup
 restored_at o c = slice_index_or o.restored c None
 
@@ -71,7 +72,8 @@ lowest o test = lowest_from test 0 (length o.restored)
 abbrev pub holds_at : Opening → List Entry → ℕ → Bool
 holds_at o es c = holds (restored_at o c) (own c es)
 
--- Each of the 64 pairs is held by a resource or barred.
+-- Each of the 64 pairs is held by a resource or barred. More than 64 holders, which a legal history over at most 64 pairs
+-- never has, don't count as that.
 abbrev pub no_pair_free : Opening → List Entry → Bool
 no_pair_free o es = count_below (holds_at o es) (length o.restored) + o.barred == 64
 

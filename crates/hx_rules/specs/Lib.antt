@@ -4,6 +4,7 @@ pub mod Versions
 pub mod Copies
 pub mod Saves
 pub mod Backups
+pub mod Marks
 pub mod Allowed
 pub mod Due
 pub mod Legal

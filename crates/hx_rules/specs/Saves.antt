@@ -58,15 +58,19 @@ abbrev pub starts : Option QueuedSave → Bool → Bool
 starts None is_dirty = false
 starts (Some q) is_dirty = is_dirty || q.force
 
+-- is the queued request, if there is one, to overwrite?
+abbrev pub overwrites : Option QueuedSave → Bool
+overwrites None = false
+overwrites (Some q) = q.over
+
 -- what a request makes of the running save
 abbrev pub run_asked : Asked → ℕ → Bool → Option Running → Option Running
 run_asked SaidStarted last over was = Some record { version = last; over = over; checked = false }
 run_asked _ last over was = was
 
--- what runs after a finish
+-- what runs after a finish: a save of the last version, where the finish starts what was queued
 abbrev pub run_finished : Option QueuedSave → Bool → ℕ → Option Running
-run_finished None is_dirty last = None
-run_finished (Some q) is_dirty last = if is_dirty || q.force then Some record { version = last; over = q.over; checked = false } else None
+run_finished q is_dirty last = if starts q is_dirty then Some record { version = last; over = overwrites q; checked = false } else None
 
 -- what a check makes of the running save
 abbrev pub run_checked : Option Running → Option Running

@@ -44,7 +44,7 @@ pub record Trail : Type 0 where
 abbrev pub trail_of : List ℕ → List ℕ → Trail
 trail_of back ahead = record { back = back; ahead = ahead }
 
--- the id at the place
+-- The id at the place. A trail without one, of a copy that was never opened nor created, gives 0, which is no version's id.
 abbrev pub at_place : Trail → ℕ
 at_place t = elim t.back [ [] ↦ 0 | n ∷ ns ↦ n ]
 
@@ -85,7 +85,8 @@ versions_after (Undone n) event content back vs = back ∷ vs
 versions_after (Redone n) event content back vs = back ∷ vs
 versions_after _ event content back vs = vs
 
--- the version with this id, of these, newest first. Ids count the versions from 1
+-- The version with this id, of these, newest first. Ids count the versions from 1. An id that isn't there, which a legal
+-- history never asks for, gives an empty one.
 abbrev pub version_at : ℕ → List Version → Version
 version_at n [] = version [] 0
 version_at n (v ∷ vs) = if length vs + 1 == n then v else version_at n vs
@@ -110,6 +111,6 @@ module _ (restored : Option Backup) where
   versions [] = elim restored [ None ↦ [] | Some b ↦ version b.content (length b.content) ∷ [] ]
   versions (d ∷ ds) = versions_after d.outcome d.event d.content (version_at (alternative (d ∷ ds)) (versions ds)) (versions ds)
 
-  -- the last version
+  -- the last version, or an empty one where there is none, which a legal history never reads
   abbrev pub last_content : List Deed → Version
   last_content ds = elim (versions ds) [ [] ↦ version [] 0 | v ∷ rest ↦ v ]

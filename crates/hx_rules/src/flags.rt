@@ -24,7 +24,7 @@ pub struct Flags {
     /// The life is guarded and a save of the copy runs.
     pub held: bool,
 
-    /// The running version, or a later one, is backed up, and no discard has been tried since.
+    /// The copy is held, and its running version, or a later one, is backed up with no discard completed or tried since.
     pub safe: bool,
 
     /// The life is guarded, and a write has failed since the last completed save.

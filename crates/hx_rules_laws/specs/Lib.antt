@@ -14,3 +14,7 @@ pub mod CopyLaws
 pub mod Quiet
 pub mod Sizes
 pub mod NotOlder
+pub mod Taken
+pub mod DueStages
+pub mod Holding
+pub mod Sized

@@ -6,17 +6,9 @@ use Rattle.hx_events.specs.declared.event.Stage.TheVariants.{Prepare, Body, Open
 use Rattle.hx_events.specs.declared.outcome.Outcome.{Outcome}
 use Rattle.hx_events.specs.declared.outcome.Outcome.TheVariants.{StageOk, StageFault, Spent}
 use Rattle.hx_rules.specs.Entries.{Deed, deed}
-use Rattle.hx_rules.specs.Backups.{Snapshot, Begun, taken, done, tried, undone, opened, faded, halted, begun, prepared, wanted, one_block_more, is_change}
+use Rattle.hx_rules.specs.Backups.{Begun, taken, halted, begun, prepared, wanted, one_block_more, is_change}
 use Rattle.hx_rules.specs.Allowed.{allowed}
-
-pub record Marks : Type 0 where
-  pub done : Option Snapshot
-  pub tried : Option Snapshot
-  pub undone : Bool
-  pub opened : Bool
-  pub begun : Option Begun
-  pub faded : Bool
-  pub halted : Bool
+use Rattle.hx_rules.specs.Marks.{marks}
 
 abbrev pub still : Bool → Option Begun → Option Begun
 still is_wanted was = if is_wanted then was else None
@@ -29,17 +21,6 @@ is_vault_outcome Spent = true
 is_vault_outcome _ = false
 
 module _ (restored : Option Backup) (guarded : Bool) where
-  abbrev pub marks : List Deed → Marks
-  marks ds = record {
-    done = done restored ds;
-    tried = tried restored ds;
-    undone = undone ds;
-    opened = opened restored ds;
-    begun = begun restored guarded ds;
-    faded = faded ds;
-    halted = halted ds;
-  }
-
   -- whether a backup of the copy is still wanted when this deed is added
   abbrev pub wanted_with : Deed → List Deed → Bool
   wanted_with d ds = wanted restored guarded (d ∷ ds)

@@ -35,7 +35,7 @@ AreSized (v ∷ vs) = (length v.content ≡ v.size) × AreSized vs
 abbrev pub SizesAreLengths : Type 0
 SizesAreLengths = (o : Opening) (es : List Entry) (c : ℕ) → is_legal o es ≡ true → AreWhole es → AreSized (versions (restored_at o c) (own c es))
 
-at_sized : (n : ℕ) (vs : List Version) → AreSized vs → length (version_at n vs).content ≡ (version_at n vs).size
+pub at_sized : (n : ℕ) (vs : List Version) → AreSized vs → length (version_at n vs).content ≡ (version_at n vs).size
 at_sized n [] are = refl
 at_sized n (v ∷ vs) are = go (length vs + 1 == n) are.0 (at_sized n vs are.1)
   where

@@ -1,12 +1,16 @@
 //! Laws of the rules of a history. Each is the contract of a function that has nothing to run.
 #![tactic(auto)]
 
+mod backups;
 mod copies;
 mod entries;
 mod marks;
 mod quiet;
 mod saves;
 
+pub use backups::{
+    an_open_opens_what_its_prepare_took, what_the_due_stage_says_of_the_backup, who_holds_a_pair,
+};
 pub use copies::{
     a_copy_keeps_the_last_stat_of_the_greatest_time, how_versions_and_trail_grow,
     sizes_are_the_lengths_of_contents, what_each_outcome_does_to_a_copy,

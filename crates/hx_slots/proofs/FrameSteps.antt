@@ -1,5 +1,5 @@
 -- A frame by its parts.
-use Rattle.std.proofs.Common.{◌≡◌, ◌<◌, ◌≤◌, ℕ, zero, suc, ◌+◌, ◌-◌, Bool, true, false, List, [], ◌∷◌, length, take, drop, Option, Some, None, refl, sym, ◌∙◌, ap, arith, lit<}
+use Rattle.std.proofs.Common.{◌≡◌, ◌<◌, ◌≤◌, ℕ, zero, suc, ◌+◌, ◌-◌, true, false, List, [], ◌∷◌, length, take, drop, Option, Some, None, refl, sym, ◌∙◌, ap, arith, lit<}
 use Rattle.std.specs.Prelude.{◌==◌, ◌++◌, ◌^◌, nat_le, slice_index, slice_range, MatchOption, IfSome}
 use Rattle.std.specs.Int.{w32, w64, to_be_bytes}
 use Rattle.hx_base.specs.Numbers.{u32_at, u64_at, u32_at-written, u64_at-written}
@@ -9,7 +9,7 @@ use Rattle.std.proofs.Math.Seq.{take-append_seam}
 use Rattle.std.proofs.lemmas.List.{length-append}
 use Rattle.std.proofs.lemmas.Bool.Decides.{nat_tests}
 use Rattle.hx_events.specs.declared.backup.SlotForm.{SlotForm}
-use Rattle.hx_slots.specs.Frames.{Frame, body_limit, body_place, frame_at, frame_by, frame_behind, frame_in, framed, shown_in, frame_bytes}
+use Rattle.hx_slots.specs.Frames.{body_limit, body_place, frame_at, frame_by, frame_behind, frame_in, framed, shown_in, frame_bytes}
 
 within : (a b : ℕ) → a ≤ b → nat_le a b ≡ true
 within a b le = grind (arith, nat_tests)

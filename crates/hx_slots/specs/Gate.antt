@@ -1,8 +1,8 @@
 -- What the calls on a slot file leave in its images. All of it is this project's own.
-use Rattle.std.specs.Prelude.{◌≡◌, ◌≢◌, ◌<◌, ◌≤◌, ◌⊎◌, ℕ, zero, suc, ◌+◌, ◌==◌, Bool, true, false, if◌then◌else◌, List, [], ◌∷◌, ◌++◌, length, take, drop, slice_index, get_or, Option, Some, None, Result, Ok, Err, OnOk, refl}
-use Rattle.std.proofs.Common.{sym, ◌∙◌, ap, subst, inl, inr, ⊎_elim, arith}
+use Rattle.std.specs.Prelude.{◌≡◌, ◌≢◌, ◌<◌, ◌≤◌, ◌⊎◌, ℕ, ◌==◌, Bool, true, false, if◌then◌else◌, List, [], ◌∷◌, length, drop, slice_index, get_or, Option, None, Result, Ok, Err, OnOk, refl}
+use Rattle.std.proofs.Common.{sym, ◌∙◌, ap, subst, inl, inr, arith}
 use Rattle.std.proofs.lemmas.Bool.Decides.{nat_tests}
-use Rattle.hx_disk.specs.File.{FileState, IsOutside, IsUntouched, IsImage, IsSound, IsAtRest, Tried, Wrote, Synced}
+use Rattle.hx_disk.specs.File.{FileState, IsOutside, IsUntouched, IsImage, IsSound, IsAtRest, Tried}
 use Rattle.hx_disk.specs.Images.{IsTorn, rest_settled, write_tears}
 use Rattle.hx_disk.specs.Overlay.{overlaid, length-overlaid, overlaid_before}
 use Rattle.hx_slots.specs.Frames.{Frame, frame_in, framed, shown_in}
@@ -20,6 +20,10 @@ Frames frame file = (image : List ℕ) → IsImage file image → framed image �
 -- whatever a crash leaves, the file shows this
 abbrev pub Shows : Option Frame → FileState → Type 0
 Shows frame file = (image : List ℕ) → IsImage file image → shown_in image ≡ frame
+
+-- any state at all: of a run whose other parts alone matter, that time goes on, that the past stays and no other file changes
+abbrev pub IsAnyState : FileState → Type 0
+IsAnyState file = Unit {0}
 
 -- the old bytes with these at a place, and all of it on the disk
 pub record IsWritten (at : ℕ) (bytes : List ℕ) (old new : FileState) : Type 0 where

@@ -6,6 +6,7 @@
 
 mod calls;
 mod frames;
+mod laws;
 mod pair;
 mod slot;
 #[cfg(test)]
@@ -13,5 +14,6 @@ mod tests;
 
 pub use calls::{close_gate, open_gate, put_block};
 pub use frames::{frame, shown};
+pub use laws::an_empty_file_frames_nothing;
 pub use pair::{RawPair, slot_file};
 pub use slot::Shown;

@@ -1,51 +1,45 @@
-use Rattle.std.proofs.Common.{◌≡◌, ◌≢◌, ◌∷◌, ◌++◌, ◌+◌, ◌*◌, ◌≤◌, ◌<◌, ◌&&◌, [], length, get_or, true, false, arith, rules, ◌∙◌, sym, ap, Some}
-use Rattle.std.specs.Char.{is_ascii_graphic, is_ascii_hexdigit, digit_value}
-use Rattle.hx_base.proofs.EscapeSteps.{bad_at_escape, bytes_at_escape, read_more, bad_at_plain, bytes_at_plain, bad_at_mark, and_first, and_second, no_digit_past}
-use Rattle.hx_base.proofs.escapes.unescape.Goals.{then-text-at-lt3-via-then-text-at-lt3, then-text-at-lt3-via-else-text-at-lt3+then-not-is_hex_digit, then-text-at-lt3-via-else-text-at-lt3+else-not-is_hex_digit+then-not-is_hex_digit-2}
+use Rattle.std.proofs.Common.{◌≡◌, ◌<◌, ◌+◌, ◌++◌, ◌∷◌, [], ℕ, drop, length, take, Some, None, refl, rules, arith, sym, ◌∙◌, ap}
+use Rattle.hx_base.proofs.EscapeSteps.{run, run_is, front_is, unescape_turn, bad_turn, stops, write_more, IsEscape, is_escape, escape_read, escape_is_good, escape_within, no_escape}
 use Rattle.hx_base.proofs.escapes.unescape.Goals as goal
 
 pub loop-at-preserved : goal.loop-at-preserved
 loop-at-preserved c =
     let text = c.args.text.now in
     let at = c.loop-at.at in
-    let long : at + 3 ≤ length text = omega arith in
-    let first : is_ascii_hexdigit (get_or text (at + 1) 0) ≡ true = search rules in
-    let second : is_ascii_hexdigit (get_or text (at + 2) 0) ≡ true = search rules in
-    let more : c.push-else-byte-ne37.new.self.items ≡ c.loop-at.bytes.items ++ (16 * digit_value (get_or text (at + 1) 0) + digit_value (get_or text (at + 2) 0)) ∷ [] = search rules in
+    let is : c.plain_run.result ≡ run (drop at text) = run_is text at c.plain_run.result _ (omega arith) refl c.plain_run.ensures.value in
+    let more : c.extend_from_slice.new.self.items ≡ c.loop-at.bytes.items ++ take c.plain_run.result (drop at text) = search rules in
     record {
-      within = long;
-      bytes = read_more _ _ _ _ _ _ c.loop-at.invariant.bytes (bytes_at_escape text at long c.if-byte-ne37.false) more;
-      bad = bad_at_escape text at long c.if-byte-ne37.false first second ∙ c.loop-at.invariant.bad;
+      within = search rules;
+      bytes = write_more _ _ _ _ _ _ c.loop-at.invariant.bytes (unescape_turn text at c.plain_run.result is) more;
+      bad = bad_turn text at c.plain_run.result is ∙ c.loop-at.invariant.bad;
     }
 
-pub loop-at-preserved-then-byte-ne37 : goal.loop-at-preserved-then-byte-ne37
-loop-at-preserved-then-byte-ne37 c =
+pub loop-at-preserved-then-at-text : goal.loop-at-preserved-then-at-text
+loop-at-preserved-then-at-text c =
     let text = c.args.text.now in
     let at = c.loop-at.at in
-    let within : at < length text = omega arith in
-    let other : get_or text at 0 ≢ 37 = search rules in
-    let printable : is_ascii_graphic (get_or text at 0) ≡ true = search rules in
-    let more : c.push.new.self.items ≡ c.loop-at.bytes.items ++ get_or text at 0 ∷ [] = search rules in
+    let is : c.plain_run.result ≡ run (drop at text) = run_is text at c.plain_run.result _ (omega arith) refl c.plain_run.ensures.value in
+    let n = c.plain_run.result in
+    let end : ℕ = at + n in
+    let more : c.extend_from_slice.new.self.items ≡ c.loop-at.bytes.items ++ take n (drop at text) = search rules in
+    let mark : IsEscape (drop end text) c.in-Some.byte = is_escape (drop end text) c.in-Some.byte (sym (front_is text end _ _ (omega arith) refl c.escape_at_front.ensures) ∙ c.in-Some.is) in
+    let pushed : c.push.new.self.items ≡ c.extend_from_slice.new.self.items ++ c.in-Some.byte ∷ [] = search rules in
     record {
-      within = omega arith;
-      bytes = read_more _ _ _ _ _ _ c.loop-at.invariant.bytes (bytes_at_plain text at within other) more;
-      bad = bad_at_plain text at within other printable ∙ c.loop-at.invariant.bad;
+      within = escape_within text end c.in-Some.byte mark;
+      bytes = write_more _ _ _ _ _ _ (write_more _ _ _ _ _ _ c.loop-at.invariant.bytes (unescape_turn text at n is) more) (escape_read text end c.in-Some.byte mark) pushed;
+      bad = escape_is_good text end c.in-Some.byte mark ∙ bad_turn text at n is ∙ c.loop-at.invariant.bad;
     }
 
-pub returns-then-text-at-lt3-clause-bad : goal.returns-then-text-at-lt3-clause-bad
-returns-then-text-at-lt3-clause-bad c = λ place is_error.
+pub returns-in_default-clause-bad : goal.returns-in_default-clause-bad
+returns-in_default-clause-bad c = λ place is_error.
     let text = c.args.text.now in
     let at = c.loop-at.at in
-    let within : at < length text = omega arith in
-    let mark : get_or text at 0 ≡ 37 = search rules in
-    let first = is_ascii_hexdigit (get_or text (at + 1) 0) in
-    let second = is_ascii_hexdigit (get_or text (at + 2) 0) in
-    let not_digits : (first && second) ≡ false =
-    elim c.then-text-at-lt3.branch [
-      | then-text-at-lt3-via-then-text-at-lt3 w ↦ and_second first second (no_digit_past text (at + 2) (omega arith))
-      | then-text-at-lt3-via-else-text-at-lt3+then-not-is_hex_digit w ↦ and_first first second (sym w.is_hex_digit.ensures ∙ w.if-not-is_hex_digit.true)
-      | then-text-at-lt3-via-else-text-at-lt3+else-not-is_hex_digit+then-not-is_hex_digit-2 w ↦
-          and_second first second (sym w.is_hex_digit-else-not-is_hex_digit.ensures ∙ w.if-not-is_hex_digit-2.true)
-    ] in
-    let place_is : at ≡ place = cc in
-    sym c.loop-at.invariant.bad ∙ bad_at_mark text at within mark not_digits ∙ ap Some place_is
+    let is : c.plain_run.result ≡ run (drop at text) = run_is text at c.plain_run.result _ (omega arith) refl c.plain_run.ensures.value in
+    let n = c.plain_run.result in
+    let end : ℕ = at + n in
+    let inside : end < length text = omega arith in
+    let place_is : end ≡ place = cc in
+    let none : c.escape_at_front.result ≡ None = search rules in
+    sym (bad_turn text at n is ∙ c.loop-at.invariant.bad)
+    ∙ no_escape text end inside (stops text at n is inside) (sym (front_is text end _ _ (omega arith) refl c.escape_at_front.ensures) ∙ none)
+    ∙ ap Some place_is

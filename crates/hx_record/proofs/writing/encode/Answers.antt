@@ -1,4 +1,4 @@
-use Rattle.std.proofs.Common.{List, ℕ, ◌≡◌, ◌∷◌, ◌++◌, [], Some, length, ◌≤◌, rules}
+use Rattle.std.proofs.Common.{◌≡◌, ◌∷◌, ◌++◌, [], Some, length, ◌≤◌, rules}
 use Rattle.std.specs.Prelude.{All}
 use Rattle.hx_meta.specs.Metas.{IsPrintable, meta_in}
 use Rattle.hx_record.proofs.ReadBack.{record_reads, ok_reads}

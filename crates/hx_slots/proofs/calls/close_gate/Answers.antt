@@ -1,4 +1,4 @@
-use Rattle.std.proofs.Common.{[], ◌∷◌, subst, None}
+use Rattle.std.proofs.Common.{[], ◌∷◌, subst}
 use Rattle.hx_disk.specs.File.{IsSound}
 use Rattle.hx_disk.specs.Runs.{through_weaker}
 use Rattle.hx_slots.specs.Gate.{OnTheWay, Frames, frames_on_the_way}

@@ -1,4 +1,4 @@
-use Rattle.std.proofs.Common.{◌≡◌, drop, ◌∙◌, sym}
+use Rattle.std.proofs.Common.{◌∙◌, sym}
 use Rattle.std.proofs.lemmas.List.{take_rest}
 use Rattle.hx_slots.proofs.FrameSteps.{shown_is, none_shown}
 use Rattle.hx_slots.proofs.frames.shown.Goals as goal

@@ -1,4 +1,4 @@
-use Rattle.std.proofs.Common.{rules, arith, ◌<◌, length, refl, sym, ◌∙◌, ap}
+use Rattle.std.proofs.Common.{rules, arith, inl, ◌<◌, length, refl, sym, ◌∙◌, ap}
 use Rattle.hx_memdisk.proofs.Steps.{length_new, past_kept, others_same}
 use Rattle.hx_memdisk.proofs.Calls.{takes_set, room_less_none, each_mtime, state_mtime, same_content}
 use Rattle.hx_disk.specs.File.{FileState}
@@ -43,6 +43,9 @@ returns-else-ok-clause-only c =
 
 pub returns-then-ok-clause-ok : goal.returns-then-ok-clause-ok
 returns-then-ok-clause-ok c = ap (λ (s : FileState). s.stat) (state_mtime _ _ _ _ _ _ c.number-number.ensures.value c.push.ensures.events ∙ ap (λ b. mtime_after c.args.mtime b (files_of c.args.self.now c.args.file)) c.if-ok.true)
+
+pub returns-else-ok-clause-err : goal.returns-else-ok-clause-err
+returns-else-ok-clause-err c = inl (ap (λ (s : FileState). s.stat) (state_mtime _ _ _ _ _ _ c.number-number.ensures.value c.push.ensures.events ∙ ap (λ b. mtime_after c.args.mtime b (files_of c.args.self.now c.args.file)) c.if-ok.false))
 
 pub returns-then-ok-clause-content : goal.returns-then-ok-clause-content
 returns-then-ok-clause-content c = same_content _ _ _ _ (state_mtime _ _ _ _ _ _ c.number-number.ensures.value c.push.ensures.events)

@@ -1,6 +1,6 @@
 use Rattle.std.proofs.Common.{rules}
 use Rattle.hx_memdisk.proofs.Steps.{same_after}
-use Rattle.hx_memdisk.proofs.memdisk.MemDiskDisk.reserve.Goals as goal
+use Rattle.hx_memdisk.proofs.memdisk.MemDisk.make_room.Goals as goal
 
 pub invariant_of-self : goal.invariant_of-self
 invariant_of-self c = record {
