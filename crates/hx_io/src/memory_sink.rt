@@ -49,21 +49,19 @@ impl MemSink {
 }
 
 impl Sink for MemSink {
-    ghost use Rattle.std.specs.Prelude.{◌≡◌, ◌≤◌, ◌<◌, ◌-◌, ◌++◌, ◌↔◌, true, min, length, take, IsTrue, IsErr, IfOk, OnErr};
+    ghost use Rattle.std.specs.Prelude.{◌≡◌, ◌≤◌, ◌<◌, ◌-◌, ◌++◌, ◌↔◌, min, length, take, IsErr, IfOk, OnErr};
     ghost use Rattle.hx_faults.specs.Faults.{HasCause};
     ghost use Rattle.hx_io.specs.Memory.{next_call, Refuses};
 
-    ghost tells = { true };
-
-    ghost held = { λ s. s.held };
+    ghost taken = { λ s. s.held };
 
     ghost failures = { λ s. s.faults };
 
     fn write(&mut self, bytes: &[u8]) -> Result<usize, SinkFailed>
         ensures count { IfOk result (λ n. n ≤ length bytes.now) }
         ensures some { 0 < length bytes.now → IfOk result (λ n. 0 < n) }
-        ensures added { IsTrue ⟦<MemSink as Sink>⟧.tells → IfOk result (λ n. self.new.held ≡ self.old.held ++ take n bytes.now) }
-        ensures none { IsTrue ⟦<MemSink as Sink>⟧.tells → OnErr result (self.new.held ≡ self.old.held) }
+        ensures taken { IfOk result (λ n. self.new.held ≡ self.old.held ++ take n bytes.now) }
+        ensures none { OnErr result (self.new.held ≡ self.old.held) }
         ensures cause { HasCause self.old.faults self.new.faults result }
 
         // It fails exactly where it is to or is full, and takes all that fits.

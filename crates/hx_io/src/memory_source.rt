@@ -13,22 +13,22 @@ pub struct MemSource {
 }
 
 impl Model for MemSource {
-    ghost use Rattle.std.specs.Prelude.{◌≤◌, length, drop};
+    ghost use Rattle.std.specs.Prelude.{◌≤◌, length, take, drop};
     ghost use Rattle.hx_io.specs.Memory.{SourceState};
 
     ghost Value = { SourceState };
 
-    ghost view = { λ s. record { left = drop s.at s.bytes.items; fails = s.fails.items; calls = s.calls; faults = s.faults } };
+    ghost view = { λ s. record { given = take s.at s.bytes.items; left = drop s.at s.bytes.items; fails = s.fails.items; calls = s.calls; faults = s.faults } };
 
     ghost invariant = { λ s. s.at ≤ length s.bytes.items };
 }
 
 impl MemSource {
-    ghost use Rattle.std.specs.Prelude.{◌≡◌};
+    ghost use Rattle.std.specs.Prelude.{◌≡◌, []};
 
     /// A source of these bytes.
     pub fn new(bytes: Vec<u8>, fails: Vec<u64>) -> MemSource
-        ensures { result ≡ record { left = bytes.items; fails = fails.items; calls = 0; faults = 0 } }
+        ensures { result ≡ record { given = []; left = bytes.items; fails = fails.items; calls = 0; faults = 0 } }
     {
         MemSource {
             bytes,
@@ -41,10 +41,11 @@ impl MemSource {
 }
 
 impl Source for MemSource {
-    ghost use Rattle.std.specs.Prelude.{◌≡◌, ◌≤◌, ◌↔◌, true, min, length, IsTrue, IsErr, IfOk, OnErr, Contains};
+    ghost use Rattle.std.specs.Prelude.{◌≡◌, ◌≤◌, ◌<◌, ◌++◌, ◌↔◌, true, [], min, length, take, IsTrue, IsErr, IfOk, OnErr, Contains};
     ghost use Rattle.hx_faults.specs.Faults.{HasCause};
-    ghost use Rattle.hx_io.specs.Streams.{Takes};
     ghost use Rattle.hx_io.specs.Memory.{next_call};
+
+    ghost given = { λ s. s.given };
 
     ghost tells = { true };
 
@@ -54,12 +55,15 @@ impl Source for MemSource {
 
     fn read(&mut self, into: &mut [u8]) -> Result<usize, SourceFailed>
         ensures count { IfOk result (λ n. n ≤ length into.new) }
-        ensures bytes { IsTrue ⟦<MemSource as Source>⟧.tells → IfOk result (λ n. Takes n into.new self.old.left self.new.left) }
-        ensures none { IsTrue ⟦<MemSource as Source>⟧.tells → OnErr result (self.new.left ≡ self.old.left) }
+        ensures given { IfOk result (λ n. self.new.given ≡ self.old.given ++ take n into.new) }
+        ensures none { OnErr result (self.new.given ≡ self.old.given) }
+        ensures whole { IsTrue ⟦<MemSource as Source>⟧.tells → self.new.given ++ self.new.left ≡ self.old.given ++ self.old.left }
+        ensures end { IsTrue ⟦<MemSource as Source>⟧.tells → IfOk result (λ n. n ≡ 0 → 0 < length into.new → self.new.left ≡ []) }
         ensures cause { HasCause self.old.faults self.new.faults result }
 
-        // It fails exactly where it is to, and gives all that fits.
+        // It fails exactly where it is to, with the buffer as it was, and gives all that fits.
         ensures planned { IsErr result ↔ Contains self.old.fails (next_call self.old.calls) }
+        ensures buffer { OnErr result (into.new ≡ into.old) }
         ensures full { IfOk result (λ n. n ≡ min (length into.old) (length self.old.left)) }
         ensures calls { self.new.calls ≡ next_call self.old.calls }
         ensures fails { self.new.fails ≡ self.old.fails }

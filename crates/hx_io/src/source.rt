@@ -1,6 +1,7 @@
-ghost use Rattle.std.specs.Prelude.{◌≡◌, ◌≤◌, ◌<◌, ◌+◌, ℕ, Bool, IsTrue, IsErrOf, [], List, length, take, drop, IfOk, OnErr};
+ghost use Rattle.std.specs.Prelude.{◌≡◌, ◌≤◌, ◌<◌, ◌+◌, ℕ, Bool, IsTrue, IsErrOf, [], List, ◌++◌, length, take, IfOk, OnErr};
 ghost use Rattle.hx_faults.specs.Faults.{HasCause, Rose};
-ghost use Rattle.hx_io.specs.Streams.{Takes, TakesSome};
+ghost use Rattle.hx_io.specs.Streams.{Grows, added};
+ghost use Rattle.hx_io.specs.Ends.{HasNoFault};
 ghost use Rattle.hx_io.specs.declared.source.ReadAllError.TheVariants.{ReadFault, NoMemory};
 
 use std::alloc::{AllocError, Global};
@@ -12,6 +13,9 @@ pub struct SourceFailed;
 
 /// Where bytes come from.
 pub trait Source {
+    /// The bytes that its reads have given so far.
+    ghost given: { Self → List ℕ };
+
     /// Whether it tells what is left. Where it doesn't, no clause speaks of that.
     ghost tells: { Bool };
 
@@ -22,10 +26,14 @@ pub trait Source {
     ghost failures: { Self → ℕ };
 
     /// Reads into the front of `into`, and gives how many bytes. 0 for a buffer with room is the end.
+    ///
+    /// A read that fails has given nothing; what the buffer then holds isn't said.
     fn read(&mut self, into: &mut [u8]) -> Result<usize, SourceFailed>
         ensures count { IfOk result (λ n. n ≤ length into.new) }
-        ensures bytes { IsTrue tells → IfOk result (λ n. Takes n into.new (left self.old) (left self.new)) }
-        ensures none { IsTrue tells → OnErr result (left self.new ≡ left self.old) }
+        ensures given { IfOk result (λ n. given self.new ≡ given self.old ++ take n into.new) }
+        ensures none { OnErr result (given self.new ≡ given self.old) }
+        ensures whole { IsTrue tells → given self.new ++ left self.new ≡ given self.old ++ left self.old }
+        ensures end { IsTrue tells → IfOk result (λ n. n ≡ 0 → 0 < length into.new → left self.new ≡ []) }
         ensures cause { HasCause (failures self.old) (failures self.new) result };
 }
 
@@ -63,20 +71,30 @@ impl From<SourceFailed> for ReadAllError {
 
 const PIECE: usize = 8192;
 
-/// Reads a source to its end.
+/// Reads a source to its end. The bytes that it answers are exactly those that were given.
 ///
 /// Gives `TooLong` as soon as one byte more than `limit` has come, and then no more is taken. Where a read fails or
-/// memory runs out, what had come is lost.
+/// memory runs out, what had come is lost. No read is made again after one that failed.
 pub fn read_all<S: Source>(
     alloc: Global,
     source: &mut S,
     limit: usize,
 ) -> Result<Vec<u8>, ReadAllError>
-    ensures all { IsTrue S.tells → IfOk result (λ bytes. (bytes.items ≡ S.left source.old) × (S.left source.new ≡ [])) }
+    ensures given { IfOk result (λ bytes. S.given source.new ≡ S.given source.old ++ bytes.items) }
     ensures limit { IfOk result (λ bytes. length bytes.items ≤ limit) }
-    ensures too_long { IsTrue S.tells → IsErrOf result ReadAllError.TooLong → (limit < length (S.left source.old)) × (S.left source.new ≡ drop (limit + 1) (S.left source.old)) }
-    ensures taken { IsTrue S.tells → TakesSome (S.left source.old) (S.left source.new) }
+    ensures too_long { IsErrOf result ReadAllError.TooLong → length (added (S.given source.old) (S.given source.new)) ≡ limit + 1 }
+
+    // At every end.
+    ensures grows { Grows (S.given source.old) (S.given source.new) }
+    ensures at_most { length (added (S.given source.old) (S.given source.new)) ≤ limit + 1 }
+
+    // Where the source tells what is left.
+    ensures whole { IsTrue S.tells → S.given source.new ++ S.left source.new ≡ S.given source.old ++ S.left source.old }
+    ensures all { IsTrue S.tells → IfOk result (λ bytes. (bytes.items ≡ S.left source.old) × (S.left source.new ≡ [])) }
+
+    // The count of faults rises where a read failed, and stands still at every other end.
     ensures fault { IsErrOf result ReadAllError.ReadFault → Rose (S.failures source.old) (S.failures source.new) }
+    ensures kept { HasNoFault result → S.failures source.new ≡ S.failures source.old }
     ensures later { S.failures source.old ≤ S.failures source.new }
 {
     let mut bytes = Vec::new(alloc);

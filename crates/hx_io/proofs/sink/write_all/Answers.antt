@@ -6,6 +6,7 @@ use Rattle.hx_io.proofs.sink.write_all.Goals as goal
 pub loop-at-preserved : goal.loop-at-preserved
 loop-at-preserved g c = record {
   within = search rules;
-  later = search rules;
-  added = λ told. added_more _ _ _ _ _ _ (c.loop-at.invariant.added told) (c.in_ok-at.ensures.added told ∙ ap (λ (l : List ℕ). g.K.Sink.held c.loop-at.sink ++ take c.in_ok-at.field-0 l) (take_rest c.args.bytes.now c.loop-at.at));
+  kept = search rules;
+  taken = added_more _ _ _ _ _ _ c.loop-at.invariant.taken (c.in_ok-at.ensures.taken ∙ ap (λ (l : List ℕ). g.K.Sink.taken c.loop-at.sink ++ take c.in_ok-at.field-0 l) (take_rest c.args.bytes.now c.loop-at.at));
+  unasked = search rules;
 }
