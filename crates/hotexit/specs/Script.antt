@@ -58,7 +58,7 @@ body_of bytes =
     if nat_lt (position_or_len is_line_feed bytes) (length bytes) then within_limits (steps_in (slice_split is_line_feed (after_first is_line_feed bytes)))
     else None
 
--- what is answered to the bytes of a source: a refusal with its line and reason, or the steps of a script
+-- what is answered to the bytes that were read: a refusal with its line and reason, or the steps of a script
 pub data Verdict : Type 0 where
   Refused : ℕ → Why → Verdict
   Script : List Step → Verdict

@@ -21,7 +21,7 @@ pub record IsAfter (old : Option (List ℕ)) (lines : List Step) (bytes : List �
   pub printed : session.printed.items ≡ printed old lines
   pub kept : shown_text bytes ≡ kept old lines
 
--- The bytes of the source are a script, and the file shows what all its lines keep. `out` is what they print.
+-- The bytes that were read are a script, and the file shows what all its lines keep. `out` is what they print.
 pub record Played (script old new out : List ℕ) : Type 0 where
   pub steps : List Step
   pub reads : verdict script ≡ Script steps
@@ -43,13 +43,13 @@ pub record StopsAt (steps : List Step) (old new : List ℕ) : Type 0 where
   pub all : steps ≡ done ++ step ∷ rest
   pub kept : (step ≡ Backup) ⊎ (shown_text new ≡ kept (shown_text old) (reverse done))
 
--- the bytes of the source are a script, and it stopped at one of its lines
+-- the bytes that were read are a script, and it stopped at one of its lines
 pub record Stopped (script old new : List ℕ) : Type 0 where
   pub steps : List Step
   pub reads : verdict script ≡ Script steps
   pub at : StopsAt steps old new
 
--- the bytes of the source are a script, and the file shows what its first lines keep
+-- the bytes that were read are a script, and the file shows what its first lines keep
 pub record Halfway (script old new : List ℕ) : Type 0 where
   pub steps : List Step
   pub reads : verdict script ≡ Script steps
@@ -96,7 +96,7 @@ IsOfScript WriteFault = Unit {0}
 IsOfScript OpenFault = Unit {0}
 IsOfScript end = ⊥
 
--- the source's bytes are a script
+-- the bytes are a script
 abbrev pub IsScript : Verdict → Type 0
 IsScript (Script steps) = Unit {0}
 IsScript refused = ⊥

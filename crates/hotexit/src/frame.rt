@@ -43,6 +43,7 @@ pub fn back_up<D: Disk>(
     ensures others { (f : ℕ) → f ≢ file → D.now disk.new f ≡ D.now disk.old f }
     ensures memory { IsErrOf result RunError.NoMemory → (f : ℕ) → D.now disk.new f ≡ D.now disk.old f }
     ensures fault { IsErrOf result RunError.DiskFault → Rose (D.failures disk.old) (D.failures disk.new) }
+    ensures no_fault { OnOk result (D.failures disk.new ≡ D.failures disk.old) }
     ensures later { D.failures disk.old ≤ D.failures disk.new }
 {
     let mut length = Vec::new(alloc);
@@ -78,6 +79,7 @@ pub fn restore<D: Disk>(
     ensures shown { IsTrue D.tells → IfOk result (λ text. option_map (λ v. v.items) text ≡ shown_text (D.now disk.old file).reading) }
     ensures same { (f : ℕ) → D.now disk.new f ≡ D.now disk.old f }
     ensures fault { IsErrOf result RunError.DiskFault → Rose (D.failures disk.old) (D.failures disk.new) }
+    ensures no_fault { OnOk result (D.failures disk.new ≡ D.failures disk.old) }
     ensures later { D.failures disk.old ≤ D.failures disk.new }
 {
     let Some(size) = size_of(disk, file)? else {
@@ -109,6 +111,7 @@ fn bytes_at<D: Disk>(
     ensures bytes { IsTrue D.tells → IfOk result (λ bytes. bytes.items ≡ take count (drop at (D.now disk.old file).reading)) }
     ensures same { (f : ℕ) → D.now disk.new f ≡ D.now disk.old f }
     ensures fault { IsErrOf result RunError.DiskFault → Rose (D.failures disk.old) (D.failures disk.new) }
+    ensures no_fault { OnOk result (D.failures disk.new ≡ D.failures disk.old) }
     ensures later { D.failures disk.old ≤ D.failures disk.new }
 {
     let mut bytes = vec![in alloc; 0u8; count]?;

@@ -24,6 +24,8 @@ fn main(rt: HostRuntime) -> ExitCode {
     let end = match words_of(&rt) {
         Ok(words) => match empty_disk(alloc) {
             Ok(disk) => {
+                // The one source and the one sink. What `top` says of texts is said of the program because nothing
+                // else in it reads standard input or writes to standard output.
                 let mut source = StdSource::new(rt.stdin());
                 let mut sink = StdSink::new(rt.stdout());
                 let Finished { end, disk: _ } = top(alloc, &words, &mut source, &mut sink, disk);

@@ -40,6 +40,7 @@ fn take_step<D: Disk>(
     ensures memory { IsErrOf result RunError.NoMemory → (f : ℕ) → D.now disk.new f ≡ D.now disk.old f }
     ensures untouched { IsErrOf result RunError.DiskFault → (step ≡ Step.Backup) ⊎ ((f : ℕ) → D.now disk.new f ≡ D.now disk.old f) }
     ensures fault { IsErrOf result RunError.DiskFault → Rose (D.failures disk.old) (D.failures disk.new) }
+    ensures no_fault { OnOk result (D.failures disk.new ≡ D.failures disk.old) }
     ensures later { D.failures disk.old ≤ D.failures disk.new }
 {
     match step {
@@ -70,6 +71,7 @@ pub fn run_steps<D: Disk>(
     ensures stopped { IsTrue D.tells → IsErrOf result RunError.DiskFault → StopsAt steps.items (D.now disk.old file).reading (D.now disk.new file).reading }
     ensures others { (f : ℕ) → f ≢ file → D.now disk.new f ≡ D.now disk.old f }
     ensures fault { IsErrOf result RunError.DiskFault → Rose (D.failures disk.old) (D.failures disk.new) }
+    ensures no_fault { OnOk result (D.failures disk.new ≡ D.failures disk.old) }
     ensures later { D.failures disk.old ≤ D.failures disk.new }
 {
     let mut session = Session {

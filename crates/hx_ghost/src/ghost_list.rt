@@ -3,7 +3,10 @@ ghost use Rattle.std.specs.Borrow.{ftrue};
 
 use std::marker::{Model, PhantomData};
 
-/// A value from which a ghost list takes items. It is only looked at in proofs, so a borrow is enough.
+/// A value that says which items a ghost list is to be extended by.
+///
+/// It is only looked at in proofs, so it may borrow all that it speaks of: a slice lists its elements, and a disk's call could
+/// be an enum that borrows the bytes of a write, and lists one item.
 pub trait Lists<T> {
     /// The items, in order.
     ghost listed: { Self → List T };
@@ -15,12 +18,15 @@ impl<T> Lists<T> for &[T] {
 
 /// A list that no memory holds: it has no size, and only clauses read it.
 ///
-/// `T` names what the items are. It may be a type that is never made, whose `Model` is some data of `specs/`.
+/// Its items are of the type that contracts see a `T` as. So `T` may be a type that is never made, whose `Model` names some
+/// data of `specs/`.
 #[derive(Drop)]
 pub struct GhostList<T> {
     of: PhantomData<T>,
     pub ghost items: { List T },
 }
+
+const _: () = prove!(size_of::<GhostList<u8>>() == 0);
 
 impl<T> Model for GhostList<T> {
     ghost also_owns = { λ _. ftrue };

@@ -12,3 +12,6 @@
 mod ghost_list;
 
 pub use ghost_list::{GhostList, Lists};
+
+#[cfg(test)]
+mod tests;

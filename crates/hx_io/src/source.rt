@@ -91,6 +91,7 @@ pub fn read_all<S: Source>(
     // Where the source tells what is left.
     ensures whole { IsTrue S.tells → S.given source.new ++ S.left source.new ≡ S.given source.old ++ S.left source.old }
     ensures all { IsTrue S.tells → IfOk result (λ bytes. (bytes.items ≡ S.left source.old) × (S.left source.new ≡ [])) }
+    ensures more_left { IsTrue S.tells → IsErrOf result ReadAllError.TooLong → limit < length (S.left source.old) }
 
     // The count of faults rises where a read failed, and stands still at every other end.
     ensures fault { IsErrOf result ReadAllError.ReadFault → Rose (S.failures source.old) (S.failures source.new) }
