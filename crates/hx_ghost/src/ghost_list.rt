@@ -5,8 +5,8 @@ use std::marker::{Model, PhantomData};
 
 /// A value that says which items a ghost list is to be extended by.
 ///
-/// It is only looked at in proofs, so it may borrow all that it speaks of: a slice lists its elements, and a disk's call could
-/// be an enum that borrows the bytes of a write, and lists one item.
+/// It is only looked at in proofs, so it may borrow all that it speaks of: a slice lists its elements, and a disk's call
+/// could be an enum that borrows the bytes of a write, and lists one item.
 pub trait Lists<T> {
     /// The items, in order.
     ghost listed: { Self → List T };

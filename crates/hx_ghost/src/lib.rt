@@ -1,12 +1,12 @@
 //! Lists that no memory holds, for contracts that have to speak of what has happened so far.
 //!
-//! A program that writes to a real stream can't say in a contract what was written: no memory of the program holds it. A
-//! `GhostList` is where such a contract finds it. It is a field of no size, and its calls do nothing when the program
-//! runs; only clauses read the list that it stands for.
+//! What a program has written to a real stream stands in no memory of the program, so its contracts find nothing there to
+//! speak of. A `GhostList` is what they find. It is a field of no size, and its calls do nothing when the program runs;
+//! only clauses read the list that it stands for.
 //!
 //! What a reader has to trust: `GhostList::new` and `GhostList::extend` alone are proved by hand, and no other code can
-//! make such a list or change it. What a list says of the world is as true as the code that extends it, so that code has
-//! to be read, or be held to a clause of its own (as the adapters of `hx_io` are).
+//! make such a list or change it. What a list says of the world is as true as the code that extends it: that code has to be
+//! read, or held to a clause of its own, as the adapters of `hx_io` are.
 #![tactic(auto)]
 
 mod ghost_list;

@@ -51,7 +51,7 @@ impl MemSink {
 impl Sink for MemSink {
     ghost use Rattle.std.specs.Prelude.{◌≡◌, ◌≤◌, ◌<◌, ◌-◌, ◌++◌, ◌↔◌, min, length, take, IsErr, IfOk, OnErr};
     ghost use Rattle.hx_faults.specs.Faults.{HasCause};
-    ghost use Rattle.hx_io.specs.Memory.{next_call, Refuses};
+    ghost use Rattle.hx_io.specs.Memory.{one_more, Refuses};
 
     ghost taken = { λ s. s.held };
 
@@ -67,7 +67,8 @@ impl Sink for MemSink {
         // It fails exactly where it is to or is full, and takes all that fits.
         ensures refused { IsErr result ↔ Refuses self.old bytes.now }
         ensures full { IfOk result (λ n. n ≡ min (length bytes.now) (self.old.room - length self.old.held)) }
-        ensures calls { self.new.calls ≡ next_call self.old.calls }
+        ensures faults { OnErr result (self.new.faults ≡ one_more self.old.faults) }
+        ensures calls { self.new.calls ≡ one_more self.old.calls }
         ensures fails { self.new.fails ≡ self.old.fails }
         ensures room { self.new.room ≡ self.old.room }
     {

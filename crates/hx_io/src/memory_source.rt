@@ -41,9 +41,9 @@ impl MemSource {
 }
 
 impl Source for MemSource {
-    ghost use Rattle.std.specs.Prelude.{◌≡◌, ◌≤◌, ◌<◌, ◌++◌, ◌↔◌, true, [], min, length, take, IsTrue, IsErr, IfOk, OnErr, Contains};
+    ghost use Rattle.std.specs.Prelude.{◌≡◌, ◌≤◌, ◌<◌, ◌++◌, ◌↔◌, true, [], min, length, take, drop, IsTrue, IsErr, IfOk, OnErr, Contains};
     ghost use Rattle.hx_faults.specs.Faults.{HasCause};
-    ghost use Rattle.hx_io.specs.Memory.{next_call};
+    ghost use Rattle.hx_io.specs.Memory.{one_more};
 
     ghost given = { λ s. s.given };
 
@@ -62,10 +62,12 @@ impl Source for MemSource {
         ensures cause { HasCause self.old.faults self.new.faults result }
 
         // It fails exactly where it is to, with the buffer as it was, and gives all that fits.
-        ensures planned { IsErr result ↔ Contains self.old.fails (next_call self.old.calls) }
+        ensures planned { IsErr result ↔ Contains self.old.fails (one_more self.old.calls) }
         ensures buffer { OnErr result (into.new ≡ into.old) }
         ensures full { IfOk result (λ n. n ≡ min (length into.old) (length self.old.left)) }
-        ensures calls { self.new.calls ≡ next_call self.old.calls }
+        ensures behind { IfOk result (λ n. drop n into.new ≡ drop n into.old) }
+        ensures faults { OnErr result (self.new.faults ≡ one_more self.old.faults) }
+        ensures calls { self.new.calls ≡ one_more self.old.calls }
         ensures fails { self.new.fails ≡ self.old.fails }
     {
         self.calls = self.calls.saturating_add(1);

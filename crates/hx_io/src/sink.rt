@@ -23,7 +23,7 @@ pub trait Sink {
         ensures cause { HasCause (failures self.old) (failures self.new) result };
 }
 
-/// Writes all the bytes. After a failure a front of them was written, possibly none, and no write is made again.
+/// Writes all the bytes. It ends with the first write that fails, and then a front of the bytes was written, possibly none.
 pub fn write_all<K: Sink>(sink: &mut K, bytes: &[u8]) -> Result<(), SinkFailed>
     ensures all { OnOk result (K.taken sink.new ≡ K.taken sink.old ++ bytes.now) }
     ensures front { OnErr result (AddsFront bytes.now (K.taken sink.old) (K.taken sink.new)) }

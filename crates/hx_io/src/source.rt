@@ -74,7 +74,7 @@ const PIECE: usize = 8192;
 /// Reads a source to its end. The bytes that it answers are exactly those that were given.
 ///
 /// Gives `TooLong` as soon as one byte more than `limit` has come, and then no more is taken. Where a read fails or
-/// memory runs out, what had come is lost. No read is made again after one that failed.
+/// memory runs out, what had come is lost. It ends with the first read that fails.
 pub fn read_all<S: Source>(
     alloc: Global,
     source: &mut S,
