@@ -134,6 +134,8 @@ fn is_replay(words: &[String]) -> bool
 ///
 /// The words are the one word `replay`. The whole script is read and judged before the first device call, and the
 /// output is written after the last one.
+///
+/// What is said of the bytes that were read and written holds of every source and every sink, the standard streams too.
 pub fn top<S: Source, K: Sink, D: Disk>(
     alloc: Global,
     words: &[String],
