@@ -1,4 +1,4 @@
-use Rattle.std.proofs.Common.{◌≡◌, ◌∙◌, ℕ, ◌+◌, ◌≤◌, List, [], ◌∷◌, length, ap, sym, subst, slice_range, arith}
+use Rattle.std.proofs.Common.{◌∙◌, ℕ, ◌+◌, ◌≤◌, List, ◌∷◌, length, ap, sym, subst, slice_range, arith}
 use Rattle.hx_copy.specs.Steps.{Step, step, IsChain}
 use Rattle.hx_copy.specs.Copies.{CopyState, copy_of, place_of, walked, edited_copy}
 use Rattle.hx_copy.proofs.Trails.{edited_chain, edited_places}
