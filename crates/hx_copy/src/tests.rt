@@ -128,7 +128,11 @@ fn the_saved_state_is_clean(rt: HostRuntime) -> Result<(), Fail> {
             (Call::Undo, 4, 2, false),
         ],
     )?;
-    // a save of an older version leaves the mark
+    Ok(())
+}
+
+#[test]
+fn a_save_of_an_older_version_leaves_the_mark(rt: HostRuntime) -> Result<(), Fail> {
     session(
         &rt,
         rt.alloc(),

@@ -1,5 +1,6 @@
 use crate::{DueIndex, Flags, due};
 use hx_events::{ResNo, Stage};
+use std::process::Abort;
 
 const QUIET: Flags = Flags {
     dirty: false,
@@ -13,81 +14,66 @@ const QUIET: Flags = Flags {
     keep: false,
 };
 
-#[test]
-fn the_stage_that_is_due(rt: HostRuntime) {
-    let edited = Flags {
-        dirty: true,
-        ..QUIET
-    };
-    let saved = Flags {
-        opened: true,
-        ..QUIET
-    };
-    for (flags, stage) in [
-        (QUIET, None),
-        (edited, Some(Stage::Prepare)),
-        (
-            Flags {
-                begun: Some(Stage::Body),
-                ..edited
-            },
-            Some(Stage::Body),
-        ),
-        (
-            Flags {
-                begun: Some(Stage::Open),
-                ..edited
-            },
-            Some(Stage::Open),
-        ),
-        (
-            Flags {
-                backed: true,
-                opened: true,
-                ..edited
-            },
-            None,
-        ),
-        (
-            Flags {
-                halted: true,
-                ..edited
-            },
-            None,
-        ),
-        (saved, Some(Stage::Fade)),
-        (
-            Flags {
-                faded: true,
-                ..saved
-            },
-            Some(Stage::Drop),
-        ),
-        (
-            Flags {
-                keep: true,
-                ..saved
-            },
-            None,
-        ),
-        (
-            Flags {
-                held: true,
-                ..saved
-            },
-            Some(Stage::Prepare),
-        ),
-        (
-            Flags {
-                held: true,
-                safe: true,
-                ..saved
-            },
-            None,
-        ),
-    ] {
-        assert_eq!(rt; due(flags), stage, "{flags:?}");
+const EDITED: Flags = Flags {
+    dirty: true,
+    ..QUIET
+};
+
+const SAVED: Flags = Flags {
+    opened: true,
+    ..QUIET
+};
+
+fn begun(stage: Stage) -> Flags {
+    Flags {
+        begun: Some(stage),
+        ..EDITED
     }
+}
+
+fn has_due(rt: &impl Abort, flags: Flags, stage: Option<Stage>) {
+    assert_eq!(rt; due(flags), stage, "{flags:?}");
+}
+
+#[test]
+fn a_dirty_copy_is_backed_up(rt: HostRuntime) {
+    has_due(&rt, QUIET, None);
+    has_due(&rt, EDITED, Some(Stage::Prepare));
+    has_due(&rt, begun(Stage::Body), Some(Stage::Body));
+    has_due(&rt, begun(Stage::Open), Some(Stage::Open));
+    let backed = Flags {
+        backed: true,
+        opened: true,
+        ..EDITED
+    };
+    has_due(&rt, backed, None);
+    let halted = Flags {
+        halted: true,
+        ..EDITED
+    };
+    has_due(&rt, halted, None);
+}
+
+#[test]
+fn a_clean_copy_is_discarded(rt: HostRuntime) {
+    has_due(&rt, SAVED, Some(Stage::Fade));
+    let faded = Flags {
+        faded: true,
+        ..SAVED
+    };
+    has_due(&rt, faded, Some(Stage::Drop));
+    let keep = Flags {
+        keep: true,
+        ..SAVED
+    };
+    has_due(&rt, keep, None);
+    let held = Flags {
+        held: true,
+        ..SAVED
+    };
+    has_due(&rt, held, Some(Stage::Prepare));
+    let safe = Flags { safe: true, ..held };
+    has_due(&rt, safe, None);
 }
 
 #[test]
