@@ -14,6 +14,8 @@ mod tests;
 
 pub use calls::{close_gate, open_gate, put_block};
 pub use frames::{frame, shown};
-pub use laws::an_empty_file_frames_nothing;
+pub use laws::{
+    an_empty_file_frames_nothing, what_a_slot_file_shows_stands_within_its_first_bytes,
+};
 pub use pair::{RawPair, slot_file};
 pub use slot::Shown;
