@@ -2,3 +2,4 @@ pub mod Files
 pub mod Frames
 pub mod Gate
 pub mod Laws
+pub mod Raws

@@ -1,0 +1,4 @@
+pub mod Values
+pub mod Laws
+pub mod Choices
+pub mod Twins
