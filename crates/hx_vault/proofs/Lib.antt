@@ -1,0 +1,4 @@
+mod Adopting
+mod Closes
+mod RestSteps
+mod SyncSteps

@@ -1,0 +1,73 @@
+-- One sync more of a run of syncs.
+use Rattle.std.specs.Prelude.{◌≡◌, ◌≢◌, ◌≤◌, ◌<◌, ℕ, ◌+◌, Bool, true, IsTrue, List, refl}
+use Rattle.std.proofs.Common.{sym, ◌∙◌, ap, subst, ⊎_elim, arith}
+use Rattle.std.proofs.lemmas.Bool.Decides.{eqb_tells}
+use Rattle.hx_disk.specs.File.{FileState, IsImage, IsSound, IsAtRest, Synced}
+use Rattle.hx_disk.specs.Disk.{Room, ChangesOnly, ThroughAll, UsesCalls}
+use Rattle.hx_disk.specs.Images.{rest_settled}
+use Rattle.hx_disk.specs.Runs.{all_started, all_goes_on, all_now}
+use Rattle.hx_vault.specs.Barriers.{IsSomeState, HadImages}
+
+-- after the sync of the first n files
+pub record AreSynced {D : Type 0} (tells : Bool) (moment : D → ℕ) (past : D → ℕ → ℕ → FileState) (now : D → ℕ → FileState) (room : D → Room) (n : ℕ) (old new : D) : Type 0 where
+  pub rest : IsTrue tells → (f : ℕ) → f < n → IsAtRest (now new f)
+  pub readings : IsTrue tells → (f : ℕ) → (now new f).reading ≡ (now old f).reading
+  pub stats : IsTrue tells → (f : ℕ) → (now new f).stat ≡ (now old f).stat
+  pub fewer : IsTrue tells → ThroughAll moment past (HadImages (now old)) old new
+  pub others : (f : ℕ) → n ≤ f → now new f ≡ now old f
+  pub runs : ThroughAll moment past IsSomeState old new
+  pub room_used : UsesCalls n (room old) (room new)
+
+module _ {D : Type 0} (tells : Bool) (moment : D → ℕ) (past : D → ℕ → ℕ → FileState) (now : D → ℕ → FileState) (room : D → Room)
+    (present : (d : D) (f : ℕ) → past d (moment d) f ≡ now d f) (sound : (d : D) (t f : ℕ) → IsTrue tells → IsSound (past d t f)) where
+  pub none_synced : (d : D) → AreSynced tells moment past now room 0 d d
+  none_synced d = record {
+    rest = λ is f below. absurd (omega (arith, below));
+    readings = λ is f. refl;
+    stats = λ is f. refl;
+    fewer = λ is. all_started moment past now present (HadImages (now d)) d (λ f image i. i);
+    others = λ f from. refl;
+    runs = all_started moment past now present IsSomeState d (λ f. tt);
+    room_used = record { file = refl; end = refl; calls = omega arith; no_more = omega arith };
+  }
+
+  -- the same file, or one that the sync didn't touch
+  by_file : (file : ℕ) (P : ℕ → Type 0) → P file → ((f : ℕ) → f ≢ file → P f) → (f : ℕ) → P f
+  by_file file P own rest f = ⊎_elim (λ same. subst P (sym same.1) own) (λ apart. rest f apart.1) (eqb_tells f file)
+
+  used_more : (n : ℕ) (a b c : Room) → UsesCalls n a b → UsesCalls 1 b c → UsesCalls (n + 1) a c
+  used_more n a b c first second = record { file = second.file ∙ first.file; end = second.end ∙ first.end; calls = omega (arith, first.calls, second.calls); no_more = omega (arith, first.no_more, second.no_more) }
+
+  -- what is read of a synced file could have been left before
+  settled : (old mid new : D) (file : ℕ) → IsTrue tells → ThroughAll moment past (HadImages (now old)) old mid → Synced (now mid file) (now new file) → HadImages (now old) file (now new file)
+  settled old mid new file is fewer synced image i =
+      all_now moment past now present (HadImages (now old)) old mid fewer file image
+      (subst (λ (x : List ℕ). IsImage (now mid file) x) (sym (rest_settled (now new file) synced.rest image i ∙ synced.reading)) (subst IsSound (present mid file) (sound mid (moment mid) file is)).reading)
+
+  pub one_synced : (n : ℕ) (old mid new : D) → AreSynced tells moment past now room n old mid → ChangesOnly moment past now n mid new → UsesCalls 1 (room mid) (room new) → (IsTrue tells → Synced (now mid n) (now new n))
+      → AreSynced tells moment past now room (n + 1) old new
+  one_synced n old mid new so_far only used ok = record {
+    rest = λ is. by_file n (λ f. f < n + 1 → IsAtRest (now new f)) (λ below. (ok is).rest) (λ f apart below. subst IsAtRest (sym (only.others f apart)) (so_far.rest is f (omega (arith, apart, below))));
+    readings = λ is. by_file n (λ f. (now new f).reading ≡ (now old f).reading) ((ok is).reading ∙ so_far.readings is n) (λ f apart. ap (λ (s : FileState). s.reading) (only.others f apart) ∙ so_far.readings is f);
+    stats = λ is. by_file n (λ f. (now new f).stat ≡ (now old f).stat) ((ok is).stat ∙ so_far.stats is n) (λ f apart. ap (λ (s : FileState). s.stat) (only.others f apart) ∙ so_far.stats is f);
+    fewer = λ is. all_goes_on moment past now present (HadImages (now old)) old mid new (so_far.fewer is) only.time
+        (by_file n (λ f. HadImages (now old) f (now new f)) (settled old mid new n is (so_far.fewer is) (ok is))
+        (λ f apart. subst (HadImages (now old) f) (sym (only.others f apart)) (all_now moment past now present (HadImages (now old)) old mid (so_far.fewer is) f)));
+    others = λ f from. only.others f (omega (arith, from)) ∙ so_far.others f (omega (arith, from));
+    runs = all_goes_on moment past now present IsSomeState old mid new so_far.runs only.time (λ f. tt);
+    room_used = used_more n (room old) (room mid) (room new) so_far.room_used used;
+  }
+
+  -- what a barrier that failed at the file n has kept
+  pub one_failed : (n : ℕ) (old mid new : D) → AreSynced tells moment past now room n old mid → ChangesOnly moment past now n mid new → UsesCalls 1 (room mid) (room new) → (IsTrue tells → now new n ≡ now mid n)
+      → (IsTrue tells → (f : ℕ) → now new f ≡ now mid f) × ThroughAll moment past IsSomeState old new × UsesCalls (n + 1) (room old) (room new)
+      × (IsTrue tells → ThroughAll moment past (HadImages (now old)) old new) × ((f : ℕ) → n + 1 ≤ f → now new f ≡ now old f)
+  one_failed n old mid new so_far only used err =
+      let same : IsTrue tells → (f : ℕ) → now new f ≡ now mid f = λ is. by_file n (λ f. now new f ≡ now mid f) (err is) (λ f apart. only.others f apart) in (
+        same,
+        all_goes_on moment past now present IsSomeState old mid new so_far.runs only.time (λ f. tt),
+        used_more n (room old) (room mid) (room new) so_far.room_used used,
+        (λ is. all_goes_on moment past now present (HadImages (now old)) old mid new (so_far.fewer is) only.time
+            (λ f. subst (HadImages (now old) f) (sym (same is f)) (all_now moment past now present (HadImages (now old)) old mid (so_far.fewer is) f))),
+        (λ f from. only.others f (omega (arith, from)) ∙ so_far.others f (omega (arith, from))),
+      )

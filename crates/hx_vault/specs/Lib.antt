@@ -1,0 +1,4 @@
+pub mod Sides
+pub mod Vaults
+pub mod Barriers
+pub mod Scans
