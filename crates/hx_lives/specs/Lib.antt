@@ -1,0 +1,15 @@
+pub mod Course
+pub mod Names
+pub mod Caused
+pub mod Told
+pub mod CrashSafe
+pub mod Holds
+pub mod Carried
+pub mod Chained
+pub mod Lasting
+pub mod Finds
+pub mod State
+pub mod Calls
+pub mod Events
+pub mod Ends
+pub mod Laws
