@@ -21,7 +21,7 @@ use Rattle.hx_vault.specs.Vaults.{VaultState, pair_at, no_pair, is_shut, reads_s
 use Rattle.hx_lives.specs.Course.{Start}
 use Rattle.hx_lives.specs.CrashSafe.{found_at}
 use Rattle.hx_lives.specs.Holds.{readings}
-use Rattle.hx_pairs.specs.Fresh.{read_value, base_at, IsAdopted, IsTwinOf, IsOpenedVault}
+use Rattle.hx_pairs.specs.Opened.{read_value, base_at, IsAdopted, IsTwinOf, IsOpenedVault}
 use Rattle.hx_pairs.specs.Words.{at_place, was_twin, first_found, IsEarlier}
 
 -- adoption leaves what is known of the gates, and forgets what was put

@@ -27,10 +27,10 @@ use Rattle.hx_lives.specs.Carried.{life_kept, files_same}
 use Rattle.hx_lives.specs.Lasting.{opened_kept, opened_before}
 use Rattle.hx_lives.specs.Calls.{HasGoneOn}
 use Rattle.hx_lives.specs.Events.{lived_with_entry}
-use Rattle.hx_pairs.specs.Kept.{PairsInvariant}
+use Rattle.hx_pairs.specs.AllPairs.{PairsInvariant}
 use Rattle.hx_pairs.specs.Safe.{kept_safe}
-use Rattle.hx_pairs.specs.Owes.{PairsOwe}
-use Rattle.hx_pairs.specs.Whole.{IsPlaced, IsExact, HasPut, RegistryInvariant, spent_on, is_vault_answer}
+use Rattle.hx_pairs.specs.Owed.{PairsOwe}
+use Rattle.hx_pairs.specs.Registries.{IsPlaced, IsExact, HasPut, RegistryInvariant, spent_on, is_vault_answer}
 
 -- What an event owes of the user's files, on a disk that tells: what it found, and which files it left alone.
 pub record FilesOwe {D : Type 0} (time : D → ℕ) (past : D → Past) (c : Course) (e : Entry) (old new : D) : Type 0 where

@@ -17,12 +17,12 @@ use Rattle.hx_slots.specs.Files.{file_of}
 use Rattle.hx_vault.specs.declared.pair.Pair.{Pair}
 use Rattle.hx_vault.specs.Sides.{SideState, Shut, Still, IsSide, is_closed, loosened}
 use Rattle.hx_vault.specs.Vaults.{VaultState, pair_at, with_pair, raised, with_put, with_shut, rehomed, away_of, away_file, home_file, other_side, is_shut}
-use Rattle.hx_pairs.specs.Inv.{PairInvariant, IsBegun, side_stamp}
+use Rattle.hx_pairs.specs.OnePair.{PairInvariant, IsBegun, side_stamp}
 use Rattle.hx_pairs.specs.Stages.{prepare_ok, close_fault, IsReady, open_fault, open_ok, fade_ok, drop_fault, drop_ok, IsBlock, body_ok, body_fault, next_putting, is_closed_loosened}
 use Rattle.hx_pairs.specs.Moves.{moves, new_marks, other_file}
 use Rattle.hx_lives.specs.Course.{Start, opening_at}
 use Rattle.hx_lives.specs.CrashSafe.{name_at}
-use Rattle.hx_pairs.specs.Kept.{held_at, marks_at, IsHolder, PairsInvariant}
+use Rattle.hx_pairs.specs.AllPairs.{held_at, marks_at, IsHolder, PairsInvariant}
 
 shut_put : (pair : Pair) (put : Option ℕ) (s : Side) → is_shut (with_put pair put) s ≡ is_shut pair s
 shut_put pair put A = refl

@@ -13,9 +13,9 @@ use Rattle.hx_vault.specs.declared.pair.PairUse.TheVariants.{Free, Taken, Barred
 use Rattle.hx_vault.specs.Vaults.{VaultState, pair_at, adopted}
 use Rattle.hx_lives.specs.Course.{Course, opening}
 use Rattle.hx_pairs.specs.Counting.{one_if, same_tests, IsJoined, no_fewer, in_three, IsSomeBelow, some_below, counts_one, count_by_places}
-use Rattle.hx_pairs.specs.Kept.{held_at, IsHeld}
+use Rattle.hx_pairs.specs.AllPairs.{held_at, IsHeld}
 use Rattle.hx_pairs.specs.Safe.{held_below}
-use Rattle.hx_pairs.specs.Whole.{IsPlaced, IsExact, is_barred_use, barred_pairs}
+use Rattle.hx_pairs.specs.Registries.{IsPlaced, IsExact, is_barred_use, barred_pairs}
 
 pub record IsFreePair (v : VaultState) : Type 0 where
   pub pair : ℕ

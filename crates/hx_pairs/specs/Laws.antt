@@ -16,15 +16,15 @@ use Rattle.hx_lives.specs.Chained.{IsOpened}
 use Rattle.hx_lives.specs.Course.{Course, Past, Start, opening, start_of}
 use Rattle.hx_lives.specs.CrashSafe.{IsSafe}
 use Rattle.hx_lives.specs.Holds.{readings}
-use Rattle.hx_pairs.specs.Begins.{invariant_begun}
-use Rattle.hx_pairs.specs.Enough.{IsFine, value_at, enough}
+use Rattle.hx_pairs.specs.Beginning.{invariant_begun}
+use Rattle.hx_pairs.specs.Sufficient.{IsFine, value_at, enough}
 use Rattle.hx_pairs.specs.Entry.{invariant_rested}
-use Rattle.hx_pairs.specs.Fresh.{IsFresh, fresh_kept}
-use Rattle.hx_pairs.specs.Inv.{PairInvariant}
-use Rattle.hx_pairs.specs.Kept.{PairsInvariant, held_at, marks_at}
+use Rattle.hx_pairs.specs.Opened.{IsFresh, fresh_kept}
+use Rattle.hx_pairs.specs.OnePair.{PairInvariant}
+use Rattle.hx_pairs.specs.AllPairs.{PairsInvariant, held_at, marks_at}
 use Rattle.hx_pairs.specs.Safe.{kept_safe}
-use Rattle.hx_pairs.specs.Users.{bare_quiet}
-use Rattle.hx_pairs.specs.Whole.{IsPlaced, IsExact, RegistryInvariant}
+use Rattle.hx_pairs.specs.UserFiles.{bare_quiet}
+use Rattle.hx_pairs.specs.Registries.{IsPlaced, IsExact, RegistryInvariant}
 
 -- Whatever the two sides of a resource's pair can show, the pair's value is allowed.
 abbrev pub PairShowsAllowed : Type 0

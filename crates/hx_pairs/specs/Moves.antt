@@ -20,7 +20,7 @@ use Rattle.hx_vault.specs.Vaults.{VaultState, pair_at, with_pair, no_pair, other
 use Rattle.hx_pairs.specs.Stages.{keeps_more}
 use Rattle.hx_lives.specs.Course.{Start, opening_at}
 use Rattle.hx_lives.specs.CrashSafe.{name_at}
-use Rattle.hx_pairs.specs.Kept.{HasSides, IsOwned, IsQuietPair, IsForeign, held_at, marks_at, IsHolder, PairsInvariant}
+use Rattle.hx_pairs.specs.AllPairs.{HasSides, IsOwned, IsQuietPair, IsForeign, held_at, marks_at, IsHolder, PairsInvariant}
 
 pub other_pair : (p n : ℕ) (s t : Side) → p ≢ n → file_of p s ≢ file_of n t
 other_pair p n A A apart same = apart (omega arith)

@@ -15,10 +15,10 @@ use Rattle.hx_vault.specs.declared.pair.PairUse.{PairUse}
 use Rattle.hx_vault.specs.declared.pair.PairUse.TheVariants.{Free, Taken, Barred}
 use Rattle.hx_vault.specs.Sides.{SideState}
 use Rattle.hx_vault.specs.Vaults.{VaultState, pair_at, with_pair, with_use, no_pair, other_side, is_shut}
-use Rattle.hx_pairs.specs.Inv.{Quiet, IsAway, IsHome, IsBegun, side_stamp, PairInvariant}
+use Rattle.hx_pairs.specs.OnePair.{Quiet, IsAway, IsHome, IsBegun, side_stamp, PairInvariant}
 use Rattle.hx_lives.specs.Course.{Start}
 use Rattle.hx_lives.specs.CrashSafe.{name_at}
-use Rattle.hx_pairs.specs.Kept.{HasSides, IsOwned, IsQuietPair, held_at, marks_at, IsHolder, PairsInvariant}
+use Rattle.hx_pairs.specs.AllPairs.{HasSides, IsOwned, IsQuietPair, held_at, marks_at, IsHolder, PairsInvariant}
 use Rattle.hx_pairs.specs.Moves.{same_marks}
 
 quiet_keeps : (resource : List ℕ) (m : Marks) (home : Side) (most : ℕ) (here away : SideState) → IsBare m → Quiet here → Quiet away → PairInvariant resource m home most here away

@@ -25,13 +25,13 @@ use Rattle.hx_vault.specs.declared.pair.PairUse.{PairUse}
 use Rattle.hx_vault.specs.declared.pair.PairUse.TheVariants.{Free, Taken, Barred}
 use Rattle.hx_vault.specs.Sides.{can_show}
 use Rattle.hx_vault.specs.Vaults.{VaultState, pair_at, other_side}
-use Rattle.hx_pairs.specs.Enough.{IsFine, value_at, enough, quiet_shows}
+use Rattle.hx_pairs.specs.Sufficient.{IsFine, value_at, enough, quiet_shows}
 use Rattle.hx_lives.specs.Course.{Start, opening_at}
 use Rattle.hx_lives.specs.CrashSafe.{safe_by, name_at, HasNoTwin, HasTwin, IsNamed, IsSafe}
 use Rattle.hx_pairs.specs.Values.{HasOwnValues}
 use Rattle.hx_pairs.specs.Words.{own_words}
 use Rattle.hx_events.specs.declared.backup.PairFound.TheVariants.{Empty, Damaged}
-use Rattle.hx_pairs.specs.Kept.{IsQuietPair, IsForeign, held_at, marks_at, IsHolder, PairsInvariant}
+use Rattle.hx_pairs.specs.AllPairs.{IsQuietPair, IsForeign, held_at, marks_at, IsHolder, PairsInvariant}
 
 by_home : (home : Side) (p : ℕ) (image : ℕ → List ℕ) → value_at home (side_of (shown_in (image (file_of p home)))) (side_of (shown_in (image (file_of p (other_side home))))) ≡ pair_value image p
 unfolding pair_value

@@ -16,7 +16,7 @@ use Rattle.hx_vault.specs.Sides.{SideState, Shut, Still, IsFrame, is_closed, loo
 use Rattle.std.proofs.lemmas.List.{take_all, append_assoc}
 use Rattle.std.proofs.lemmas.Bool.{cases_eq}
 use Rattle.hx_vault.specs.Vaults.{other_side}
-use Rattle.hx_pairs.specs.Inv.{Quiet, Reads, side_stamp, IsHome, LosesTo, Loses, IsAway, IsPutting, IsBegun, PairInvariant}
+use Rattle.hx_pairs.specs.OnePair.{Quiet, Reads, side_stamp, IsHome, LosesTo, Loses, IsAway, IsPutting, IsBegun, PairInvariant}
 
 quiet_loosened : (s : SideState) → Quiet s → Quiet (loosened s)
 quiet_loosened (Shut frame) quiet = quiet

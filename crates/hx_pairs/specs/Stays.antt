@@ -12,10 +12,10 @@ use Rattle.hx_rules.specs.Marks.{Marks, marks}
 use Rattle.hx_rules_laws.specs.Marks.{marks_change, still, is_vault_outcome}
 use Rattle.hx_vault.specs.Sides.{SideState}
 use Rattle.hx_vault.specs.Vaults.{VaultState, pair_at}
-use Rattle.hx_pairs.specs.Inv.{IsAway, IsHome, IsBegun, side_stamp, PairInvariant}
+use Rattle.hx_pairs.specs.OnePair.{IsAway, IsHome, IsBegun, side_stamp, PairInvariant}
 use Rattle.hx_lives.specs.Course.{Start, opening_at}
 use Rattle.hx_lives.specs.CrashSafe.{name_at}
-use Rattle.hx_pairs.specs.Kept.{marks_at, PairsInvariant}
+use Rattle.hx_pairs.specs.AllPairs.{marks_at, PairsInvariant}
 use Rattle.hx_pairs.specs.Moves.{new_marks}
 use Rattle.hx_rules_laws.specs.Frames.{leaves_others}
 

@@ -19,6 +19,14 @@ const OTHER: &[u8] = b"\x01\0\0\0\0\0\0\0\x07\0\0\0\x1Dfile:///b {\"typeId\":\"\
 
 const CLOSED: &[u8] = b"\x02\0\0\0\0\0\0\0\x07\0\0\0\x1Dfile:///b {\"typeId\":\"\"}\nother";
 
+// A gate and nothing behind it, and a header with a length that no body has.
+const GATE: &[u8] = b"\x01";
+
+const TOO_LONG: &[u8] = b"\x01\0\0\0\0\0\0\0\0\xFF\xFF\xFF\xFF";
+
+// A backup of another program in form Two, in which the type id counts.
+const FOREIGN: &[u8] = b"\x01\0\0\0\0\0\0\0\x01\xFF\xFF\xFF\xFF\0\0\0\x11r {\"typeId\":\"n\"}\n";
+
 fn raw(alloc: Global, sides: [&[u8]; 2]) -> Result<RawPair, Fail> {
     Ok(RawPair {
         a: Bytes::new(Vec::from_slice(alloc, sides[0])?),
@@ -49,18 +57,22 @@ fn the_first_of_two_pairs_counts_and_a_pair_that_does_not_read_is_damaged(
         [CLOSED, NOTHING],
         [NOTHING, OTHER],
         [OTHER, SPOILT],
+        [GATE, TOO_LONG],
+        [FOREIGN, NOTHING],
     ] {
         pairs.push(raw(alloc, sides)?)?;
     }
     assert!(rt; pairs.len() <= 64);
     let found = restored(alloc, &pairs)?;
-    assert_eq!(rt; found.len(), 6);
+    assert_eq!(rt; found.len(), 8);
     assert_content(&rt, &found[0], b"hello", Side::A);
     assert!(rt; matches!(&found[1], PairFound::Twin(earlier) if earlier.number() == 0));
     assert!(rt; matches!(&found[2], PairFound::Damaged));
     assert!(rt; matches!(&found[3], PairFound::Empty));
     assert_content(&rt, &found[4], b"other", Side::B);
     assert!(rt; matches!(&found[5], PairFound::Twin(earlier) if earlier.number() == 4));
+    assert!(rt; matches!(&found[6], PairFound::Empty));
+    assert!(rt; matches!(&found[7], PairFound::Damaged));
     Ok(())
 }
 
@@ -70,6 +82,7 @@ fn the_side_of_the_larger_stamp_counts_and_side_a_at_a_tie(rt: HostRuntime) -> R
     for (sides, content, side) in [
         ([HELLO, WORLD], b"world".as_slice(), Side::B),
         ([WORLD, HELLO], b"world", Side::A),
+        ([HELLO, HELLO], b"hello", Side::A),
         ([HELLO, AS_LATE], b"hello", Side::A),
         ([AS_LATE, HELLO], b"world", Side::A),
         ([HELLO, SPOILT], b"hello", Side::A),

@@ -178,10 +178,10 @@ fn scanned_pairs(alloc: Global, raws: &[RawPair]) -> Result<Vec<Pair>, AllocErro
 /// Reads the slot files, each once and no further than its first 534,305 bytes, and gives what is read of each pair and a
 /// vault that knows which gates are closed.
 ///
-/// It makes a stat and a read for each file and changes nothing on the disk. All its pairs are free until `adopt` says
-/// what was found in them. A gate is known closed exactly where the file has a first byte and that isn't 1, so an empty
-/// file's isn't. The counter is the greatest stamp that is shown, or 0. What stands on the disk is no more than what is read, as
-/// after a `barrier` that answered `Ok`: that is asked for where the disk tells.
+/// It asks for the stat of each file and reads those that aren't empty, and changes nothing on the disk. All pairs are free
+/// until `adopt` says what was found in them. A gate counts as known closed exactly where the file has a first byte and that
+/// isn't 1, so an empty file's doesn't. The counter is the greatest stamp that is shown, or 0. All of this is true of what a
+/// crash leaves only where that is what is read, as after a `barrier` that answered `Ok`.
 pub fn scan<D: Disk>(alloc: Global, disk: &mut D) -> Result<(Vault, Vec<RawPair>), ScanError>
     ensures read { IsTrue D.tells → IfOk result (λ r. AreReadOf (λ f. (D.now disk.old f).reading) r.1.items) }
     ensures count { IfOk result (λ r. length r.1.items ≡ 64) }

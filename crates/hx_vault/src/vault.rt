@@ -278,6 +278,13 @@ impl Vault {
         self.stamp == u64::MAX
     }
 
+    /// What the pair serves.
+    pub fn use_of(&self, pair: PairNo) -> PairUse
+        ensures { result ≡ (pair_at self.now pair).used }
+    {
+        self.pair(pair).used
+    }
+
     /// How many bytes were put behind the gate since the last `prepare`.
     pub fn place(&self, pair: PairNo) -> u64
         ensures { result ≡ place_of (pair_at self.now pair) }

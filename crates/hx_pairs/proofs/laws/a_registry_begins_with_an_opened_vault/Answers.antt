@@ -1,4 +1,4 @@
-use Rattle.hx_pairs.specs.Begins.{invariant_begun}
+use Rattle.hx_pairs.specs.Beginning.{invariant_begun}
 use Rattle.hx_pairs.proofs.laws.a_registry_begins_with_an_opened_vault.Goals as goal
 
 pub returns : goal.returns

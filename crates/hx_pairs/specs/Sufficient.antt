@@ -15,7 +15,7 @@ use Rattle.hx_rules.specs.Backups.{Snapshot, backup_of}
 use Rattle.hx_rules.specs.Marks.{Marks}
 use Rattle.hx_slots.specs.Frames.{Frame}
 use Rattle.hx_vault.specs.Sides.{SideState, Shut, Still, CanShow}
-use Rattle.hx_pairs.specs.Inv.{Quiet, Reads, side_stamp, IsHome, LosesTo, Loses, IsAway, PairInvariant}
+use Rattle.hx_pairs.specs.OnePair.{Quiet, Reads, side_stamp, IsHome, LosesTo, Loses, IsAway, PairInvariant}
 
 -- a pair's value is allowed: nothing where nothing may come back, else a backup of the resource that may
 abbrev pub IsFine : List ℕ → List (Option Snapshot) → PairValue → Type 0

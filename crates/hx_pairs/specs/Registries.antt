@@ -25,7 +25,7 @@ use Rattle.hx_slots.specs.Raws.{greatest_stamp}
 use Rattle.hx_lives.specs.Holds.{readings}
 use Rattle.hx_lives.specs.Told.{stamps_taken, takes_stamp, IsStamped}
 use Rattle.hx_pairs.specs.Counting.{same_tests}
-use Rattle.hx_pairs.specs.Kept.{held_at, marks_at, IsHeld, PairsInvariant}
+use Rattle.hx_pairs.specs.AllPairs.{held_at, marks_at, IsHeld, PairsInvariant}
 use Rattle.hx_pairs.specs.Moves.{same_marks}
 use Rattle.hx_pairs.specs.Stays.{MarksLess}
 use Rattle.hx_rules.specs.Marks.{Marks}
@@ -63,6 +63,7 @@ IsPut blocks (Some n) = n ≤ 8192 * blocks
 abbrev pub HasPut : Course → VaultState → List (Option ℕ) → Type 0
 HasPut c v held = (k p : ℕ) (b : Begun) → held_at held k ≡ Some p → (marks_at (start_of c) c.entries k).begun ≡ Some b → IsPut b.blocks (pair_at v p).put
 
+-- What a registry keeps from event to event. What isn't said of disks that tell their content holds of every disk.
 pub record RegistryInvariant {D : Type 0} (tells : Bool) (time : D → ℕ) (past : D → Past) (now : D → ℕ → FileState) (failures : D → ℕ) (c : Course) (v : VaultState) (held : List (Option ℕ)) (disk : D) : Type 0 where
   pub keeps : IsLivedSoFar tells time past failures c disk
   pub placed : IsPlaced c.names (opening c).barred v held

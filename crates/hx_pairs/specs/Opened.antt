@@ -24,11 +24,11 @@ use Rattle.hx_vault.specs.declared.pair.Pair.{Pair}
 use Rattle.hx_vault.specs.declared.pair.PairUse.TheVariants.{Free, Taken, Barred}
 use Rattle.hx_vault.specs.Sides.{SideState, is_closed}
 use Rattle.hx_vault.specs.Vaults.{VaultState, pair_at, other_side, is_shut, reads_shut}
-use Rattle.hx_pairs.specs.Inv.{LosesTo, PairInvariant}
-use Rattle.hx_pairs.specs.Opening.{scanned, scanned_by, scanned_side, scanned_quiet, Counts, first_marks, found_keeps}
+use Rattle.hx_pairs.specs.OnePair.{LosesTo, PairInvariant}
+use Rattle.hx_pairs.specs.ReadSides.{scanned, scanned_by, scanned_side, scanned_quiet, Counts, first_marks, found_keeps}
 use Rattle.hx_lives.specs.Course.{Start, opening_at}
 use Rattle.hx_lives.specs.CrashSafe.{name_at}
-use Rattle.hx_pairs.specs.Kept.{HasSides, IsPlace, IsQuietPair, IsForeign, held_at, IsHolder, IsHeld, PairsInvariant}
+use Rattle.hx_pairs.specs.AllPairs.{HasSides, IsPlace, IsQuietPair, IsForeign, held_at, IsHolder, IsHeld, PairsInvariant}
 
 -- what the pair p is worth by what was read
 abbrev pub read_value : (ℕ → FileState) → ℕ → PairValue

@@ -1,4 +1,4 @@
--- What the sides of a pair are while a resource holds it: the invariant of one pair, over data alone.
+-- The invariant of one pair that a resource holds, over data alone: what stands on its two sides, by the marks of its backups.
 use Rattle.std.specs.Prelude.{◌≡◌, ◌<◌, ◌≤◌, ℕ, ◌*◌, Bool, true, false, List, [], ◌++◌, take, Option, Some, None, is_some, Result, Ok, Err}
 use Rattle.hx_events.specs.declared.backup.Backup.{Backup}
 use Rattle.hx_events.specs.declared.backup.Side.{Side}

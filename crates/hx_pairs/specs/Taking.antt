@@ -25,15 +25,15 @@ use Rattle.hx_vault.specs.Vaults.{VaultState, pair_at, with_pair, with_use, no_p
 use Rattle.hx_lives.specs.Course.{Course, Start, Past, start_of, opening, opening_at, with_entry}
 use Rattle.hx_lives.specs.Caused.{is_fault}
 use Rattle.hx_lives.specs.Told.{IsFound, IsStamped, takes_stamp, user_file, resource_in}
-use Rattle.hx_pairs.specs.Kept.{held_at, marks_at, PairsInvariant}
+use Rattle.hx_pairs.specs.AllPairs.{held_at, marks_at, PairsInvariant}
 use Rattle.hx_pairs.specs.Moves.{same_marks, new_marks}
 use Rattle.hx_pairs.specs.Owners.{taken_over, released}
-use Rattle.hx_pairs.specs.Owes.{PairsOwe}
+use Rattle.hx_pairs.specs.Owed.{PairsOwe}
 use Rattle.hx_rules_laws.specs.Holding.{holding_none_is_bare}
 use Rattle.hx_pairs.specs.Stays.{less_all}
-use Rattle.hx_pairs.specs.Whole.{IsPlaced, HasPut, IsPut, IsExact, RegistryInvariant, placed_taken, placed_released, exact_entry, putting_stays, putting_released}
+use Rattle.hx_pairs.specs.Registries.{IsPlaced, HasPut, IsPut, IsExact, RegistryInvariant, placed_taken, placed_released, exact_entry, putting_stays, putting_released}
 use Rattle.hx_pairs.specs.Entry.{invariant_entry}
-use Rattle.hx_pairs.specs.Users.{same_slots, pairs_stay, no_stamp, stamp_free, free_stay, stay_less}
+use Rattle.hx_pairs.specs.UserFiles.{same_slots, pairs_stay, no_stamp, stamp_free, free_stay, stay_less}
 
 still_none : (t : Bool) → still t None ≡ None
 still_none true = refl

@@ -19,10 +19,10 @@ use Rattle.hx_vault.specs.Vaults.{VaultState, pair_at, with_pair, raised, with_p
 use Rattle.hx_lives.specs.Course.{Start, opening_at}
 use Rattle.hx_lives.specs.CrashSafe.{name_at}
 use Rattle.hx_pairs.specs.Stages.{ready, begun_shut, IsBlock}
-use Rattle.hx_pairs.specs.Inv.{IsBegun, side_stamp}
-use Rattle.hx_pairs.specs.Kept.{held_at, marks_at, IsPlace, PairsInvariant}
+use Rattle.hx_pairs.specs.OnePair.{IsBegun, side_stamp}
+use Rattle.hx_pairs.specs.AllPairs.{held_at, marks_at, IsPlace, PairsInvariant}
 use Rattle.hx_pairs.specs.Safe.{kept_safe}
-use Rattle.hx_pairs.specs.Owes.{PairsOwe, moved}
+use Rattle.hx_pairs.specs.Owed.{PairsOwe, moved}
 use Rattle.hx_pairs.specs.Events.{prepare_moment, prepare_done, open_moment, open_done, fade_moment, fade_done, drop_moment, drop_done, body_moment, body_done}
 
 place_is : (at : Option ℕ) (put : List ℕ) → is_some at ≡ true → IsPlace at (Shut put) → length put ≡ put_length at

@@ -11,8 +11,8 @@ use Rattle.hx_slots.specs.Raws.{greatest_stamp}
 use Rattle.hx_lives.specs.Holds.{readings}
 use Rattle.hx_lives.specs.Chained.{IsOpened}
 use Rattle.hx_pairs.specs.Safe.{kept_safe}
-use Rattle.hx_pairs.specs.Fresh.{IsFresh, fresh_kept}
-use Rattle.hx_pairs.specs.Whole.{IsPlaced, IsExact, RegistryInvariant}
+use Rattle.hx_pairs.specs.Opened.{IsFresh, fresh_kept}
+use Rattle.hx_pairs.specs.Registries.{IsPlaced, IsExact, RegistryInvariant}
 
 -- the same life with these entries
 abbrev with_only : Course → List Entry → Course

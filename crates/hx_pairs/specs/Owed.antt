@@ -8,7 +8,7 @@ use Rattle.hx_rules.specs.Allowed.{failed}
 use Rattle.hx_vault.specs.Vaults.{VaultState}
 use Rattle.hx_lives.specs.Course.{Start, Past}
 use Rattle.hx_lives.specs.CrashSafe.{IsSafe}
-use Rattle.hx_pairs.specs.Kept.{PairsInvariant}
+use Rattle.hx_pairs.specs.AllPairs.{PairsInvariant}
 
 -- Whatever a crash leaves at each of its moments is safe with the entry in hand, and the invariant holds at its end.
 pub record PairsOwe {D : Type 0} (time : D → ℕ) (past : D → Past) (now : D → ℕ → FileState) (b : Start) (es : List Entry) (e : Entry) (w : VaultState) (after : List (Option ℕ)) (old new : D) : Type 0 where

@@ -23,14 +23,14 @@ use Rattle.hx_lives.specs.Course.{Course, Past, start_of, opening, opening_at, w
 use Rattle.hx_lives.specs.Caused.{is_fault}
 use Rattle.hx_lives.specs.CrashSafe.{name_at}
 use Rattle.hx_lives.specs.Told.{IsStamped, takes_stamp}
-use Rattle.hx_pairs.specs.Kept.{held_at, marks_at}
+use Rattle.hx_pairs.specs.AllPairs.{held_at, marks_at}
 use Rattle.hx_pairs.specs.Stages.{IsBlock}
 use Rattle.hx_pairs.specs.Moves.{new_marks}
-use Rattle.hx_pairs.specs.Goods.{drop_good, prepare_good, prepare_failed_good, open_good, open_failed_good, fade_good, fade_failed_good, drop_failed_good, body_good, body_failed_good}
-use Rattle.hx_pairs.specs.Whole.{IsPlaced, IsExact, IsPut, HasPut, RegistryInvariant, is_vault_answer, leaves_hold, placed_moved, placed_released, exact_entry, exact_left, putting_moved, putting_released}
+use Rattle.hx_pairs.specs.StageEnds.{drop_good, prepare_good, prepare_failed_good, open_good, open_failed_good, fade_good, fade_failed_good, drop_failed_good, body_good, body_failed_good}
+use Rattle.hx_pairs.specs.Registries.{IsPlaced, IsExact, IsPut, HasPut, RegistryInvariant, is_vault_answer, leaves_hold, placed_moved, placed_released, exact_entry, exact_left, putting_moved, putting_released}
 use Rattle.std.proofs.lemmas.Bool.Decides.{nat_tests}
 use Rattle.hx_pairs.specs.Owners.{released}
-use Rattle.hx_pairs.specs.Owes.{PairsOwe}
+use Rattle.hx_pairs.specs.Owed.{PairsOwe}
 use Rattle.std.proofs.lemmas.List.{get_or-set_same, get_or-set_other}
 use Rattle.hx_vault.specs.declared.pair.PairUse.TheVariants.{Free}
 use Rattle.hx_pairs.specs.Entry.{slot_below, invariant_stage}

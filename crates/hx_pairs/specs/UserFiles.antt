@@ -25,13 +25,13 @@ use Rattle.hx_lives.specs.Caused.{is_fault}
 use Rattle.hx_lives.specs.CrashSafe.{name_at}
 use Rattle.hx_lives.specs.Told.{IsFound, IsLeftAlone, IsStamped, takes_stamp, user_file, resource_in, writes_by}
 use Rattle.hx_lives.specs.Calls.{HasGoneOn}
-use Rattle.hx_pairs.specs.Inv.{Quiet}
-use Rattle.hx_pairs.specs.Kept.{HasSides, IsOwned, IsQuietPair, IsForeign, held_at, marks_at, IsHolder, PairsInvariant}
+use Rattle.hx_pairs.specs.OnePair.{Quiet}
+use Rattle.hx_pairs.specs.AllPairs.{HasSides, IsOwned, IsQuietPair, IsForeign, held_at, marks_at, IsHolder, PairsInvariant}
 use Rattle.hx_pairs.specs.Safe.{kept_safe}
 use Rattle.hx_pairs.specs.Stays.{MarksLess, outcome_less, spent_less, stays, less_all}
 use Rattle.hx_pairs.specs.Owners.{keeps_quiet}
-use Rattle.hx_pairs.specs.Owes.{PairsOwe}
-use Rattle.hx_pairs.specs.Whole.{RegistryInvariant, is_vault_answer, same_hold, exact_same, putting_stays}
+use Rattle.hx_pairs.specs.Owed.{PairsOwe}
+use Rattle.hx_pairs.specs.Registries.{RegistryInvariant, is_vault_answer, same_hold, exact_same, putting_stays}
 use Rattle.hx_pairs.specs.Entry.{slot_below, invariant_entry}
 
 sides_same : (pair : Pair) (p : ℕ) (old new : ℕ → FileState) (here away : SideState) → p < 64 → ((f : ℕ) → f < 128 → new f ≡ old f) → HasSides pair p old here away → HasSides pair p new here away

@@ -1,4 +1,4 @@
--- What a registry keeps of its disk, pair by pair.
+-- The invariant of all pairs: each is held by one resource, quiet, or barred. It is this project's own.
 use Rattle.std.specs.Prelude.{◌≡◌, ◌<◌, ◌⊎◌, ℕ, ◌+◌, ◌*◌, List, length, slice_index_or, Option, Some, None}
 use Rattle.hx_disk.specs.File.{FileState, IsImage}
 use Rattle.hx_events.specs.declared.life.Entry.{Entry}
@@ -17,7 +17,7 @@ use Rattle.hx_vault.specs.declared.pair.Pair.{Pair}
 use Rattle.hx_vault.specs.declared.pair.PairUse.TheVariants.{Free, Taken, Barred}
 use Rattle.hx_vault.specs.Sides.{SideState, Shut, Still, IsSide, is_closed}
 use Rattle.hx_vault.specs.Vaults.{VaultState, pair_at, is_shut, other_side}
-use Rattle.hx_pairs.specs.Inv.{Quiet, PairInvariant}
+use Rattle.hx_pairs.specs.OnePair.{Quiet, PairInvariant}
 use Rattle.hx_lives.specs.Course.{Start, opening_at}
 use Rattle.hx_lives.specs.CrashSafe.{name_at, IsNamed, HasTwin}
 
@@ -64,9 +64,11 @@ pub record IsForeign (b : Start) (p : ℕ) (files : ℕ → FileState) : Type 0 
   pub fixed : (x y : List ℕ) → IsImage (files (2 * p)) x → IsImage (files (2 * p + 1)) y → value_of (side_of (shown_in x)) (side_of (shown_in y)) ≡ value
   pub kind : ((value ≡ Broken) × (slice_index_or b.base p Empty ≡ Damaged)) ⊎ IsTwinValue b p value
 
+-- the pair that the resource c holds
 abbrev pub held_at : List (Option ℕ) → ℕ → Option ℕ
 held_at held c = slice_index_or held c None
 
+-- the marks of the resource's backups after these entries
 abbrev pub marks_at : Start → List Entry → ℕ → Marks
 marks_at b es c = marks (restored_at (opening_at b) c) (opening_at b).guarded (own c es)
 
@@ -76,11 +78,12 @@ pub record IsHolder (b : Start) (es : List Entry) (v : VaultState) (files : ℕ 
   pub used : (pair_at v p).used ≡ Taken
   pub owned : IsOwned (name_at b c) (marks_at b es c) (pair_at v p) p v.stamp files
 
+-- some resource holds the pair
 pub record IsHeld (held : List (Option ℕ)) (p : ℕ) : Type 0 where
   pub owner : ℕ
   pub is : held_at held owner ≡ Some p
 
--- The invariant of a registry: each pair is held by one resource, quiet, or barred.
+-- The invariant. A resource that holds no pair has no completed backup.
 pub record PairsInvariant (b : Start) (es : List Entry) (v : VaultState) (held : List (Option ℕ)) (files : ℕ → FileState) : Type 0 where
   pub names : (c k : ℕ) → c < length b.names → k < length b.names → name_at b c ≡ name_at b k → c ≡ k
   pub owners : length held ≡ length b.names

@@ -14,7 +14,7 @@ use Rattle.hx_rules.specs.Marks.{Marks}
 use Rattle.hx_slots.specs.Frames.{Frame, framed, frame_in, shown_in}
 use Rattle.hx_slots.specs.Gate.{closed_shows_nothing}
 use Rattle.hx_vault.specs.Sides.{SideState, Shut, Still, IsSide, puts_none}
-use Rattle.hx_pairs.specs.Inv.{Quiet, Reads, side_stamp, IsHome, LosesTo, Loses, IsAway, PairInvariant}
+use Rattle.hx_pairs.specs.OnePair.{Quiet, Reads, side_stamp, IsHome, LosesTo, Loses, IsAway, PairInvariant}
 
 -- what is known of a file at rest by its reading
 abbrev pub scanned_by : Bool → Option Frame → SideState
