@@ -1,5 +1,5 @@
 -- What the barrier, the scan, the restore and the adoption promise is a vault that was just opened.
-use Rattle.std.specs.Prelude.{◌≡◌, ◌<◌, ◌≤◌, ℕ, suc, ◌+◌, ◌*◌, ◌==◌, Bool, true, false, if◌then◌else◌, List, [], ◌∷◌, length, map, take, Option, Some, None, slice_index_or, refl}
+use Rattle.std.specs.Prelude.{◌≡◌, ◌<◌, ◌≤◌, ℕ, suc, ◌+◌, ◌*◌, true, List, [], ◌∷◌, length, take, Some, None, refl}
 use Rattle.std.proofs.Common.{sym, ◌∙◌, ap, subst, ⊎_elim, arith}
 use Rattle.std.proofs.lemmas.List.{get_or-map, length-map}
 use Rattle.std.proofs.lemmas.Slice.Eq.{bytes_eq-Decides}
@@ -13,7 +13,7 @@ use Rattle.hx_restore.specs.declared.value.PairValue.{PairValue}
 use Rattle.hx_restore.specs.Values.{holds_for, found_by, earlier_of, found_from, pair_value, restored}
 use Rattle.hx_slots.specs.Files.{file_of}
 use Rattle.hx_slots.specs.Frames.{Frame, shown_in}
-use Rattle.hx_slots.specs.Raws.{raw_at, AreReadOf, stamp_of, greatest_shown, greatest_stamp}
+use Rattle.hx_slots.specs.Raws.{raw_at, AreReadOf, stamp_of, greatest_stamp}
 use Rattle.hx_slots.specs.declared.pair.RawPair.{RawPair}
 use Rattle.hx_vault.specs.Scans.{greatest_read, no_greater_stamp}
 use Rattle.hx_vault.specs.declared.pair.Pair.{Pair}

@@ -1,19 +1,19 @@
 -- A free pair is there exactly where the rules don't say that none is left: of the 64 pairs each is free, barred as the base
 -- has it, or held, one to one.
-use Rattle.std.specs.Prelude.{◌≡◌, ◌≢◌, ◌<◌, ◌≤◌, ◌⊎◌, ℕ, ◌+◌, ◌==◌, Bool, true, false, List, [], length, map, count_by, Option, Some, None, is_some, slice_index_or, refl}
-use Rattle.std.proofs.Common.{sym, ◌∙◌, ap, subst, inl, inr, ⊎_elim, arith}
+use Rattle.std.specs.Prelude.{◌≡◌, ◌≢◌, ◌<◌, ◌⊎◌, ℕ, ◌+◌, ◌==◌, Bool, true, false, List, length, count_by, Option, Some, None, is_some, slice_index_or, refl}
+use Rattle.std.proofs.Common.{sym, ◌∙◌, ap, inl, inr, ⊎_elim, arith}
 use Rattle.std.proofs.lemmas.Bool.Decides.{nat_tests}
 use Rattle.std.proofs.lemmas.List.{length-map}
 use Rattle.hx_events.specs.declared.backup.PairFound.{PairFound}
 use Rattle.hx_events.specs.declared.backup.PairFound.TheVariants.{Empty, Found, Damaged, Twin}
-use Rattle.hx_rules.specs.Legal.{count_below, found_backup, holds_at, is_barred, no_pair_free}
+use Rattle.hx_rules.specs.Legal.{count_below, holds_at, is_barred, no_pair_free}
 use Rattle.hx_vault.specs.declared.pair.Pair.{Pair}
 use Rattle.hx_vault.specs.declared.pair.PairUse.{PairUse}
 use Rattle.hx_vault.specs.declared.pair.PairUse.TheVariants.{Free, Taken, Barred}
 use Rattle.hx_vault.specs.Vaults.{VaultState, pair_at, adopted}
 use Rattle.hx_lives.specs.Course.{Course, opening}
-use Rattle.hx_pairs.specs.Counting.{one_if, same_tests, IsJoined, no_fewer, in_three, IsSomeBelow, some_below, counts_one, count_by_places}
-use Rattle.hx_pairs.specs.AllPairs.{held_at, IsHeld}
+use Rattle.hx_pairs.specs.Counting.{one_if, same_tests, IsJoined, no_fewer, in_three, some_below, counts_one, count_by_places}
+use Rattle.hx_pairs.specs.AllPairs.{held_at}
 use Rattle.hx_pairs.specs.Safe.{held_below}
 use Rattle.hx_pairs.specs.Registries.{IsPlaced, IsExact, is_barred_use, barred_pairs}
 

@@ -1,6 +1,5 @@
 -- Laws of the pairs, as statements.
-use Rattle.std.specs.Prelude.{◌≡◌, ◌≤◌, ◌<◌, ℕ, Bool, true, false, IsTrue, List, [], ◌∷◌, Option, Some, None}
-use Rattle.hx_disk.specs.Disk.{ChangesNothing}
+use Rattle.std.specs.Prelude.{◌≡◌, ◌≤◌, ℕ, Bool, IsTrue, List, [], Option, Some, None}
 use Rattle.hx_disk.specs.File.{FileState}
 use Rattle.hx_events.specs.declared.backup.Side.{Side}
 use Rattle.hx_events.specs.declared.life.Entry.{Entry}
@@ -16,9 +15,7 @@ use Rattle.hx_lives.specs.Chained.{IsOpened}
 use Rattle.hx_lives.specs.Course.{Course, Past, Start, opening, start_of}
 use Rattle.hx_lives.specs.CrashSafe.{IsSafe}
 use Rattle.hx_lives.specs.Holds.{readings}
-use Rattle.hx_pairs.specs.Beginning.{invariant_begun}
 use Rattle.hx_pairs.specs.Sufficient.{IsFine, value_at, enough}
-use Rattle.hx_pairs.specs.Entry.{invariant_rested}
 use Rattle.hx_pairs.specs.Opened.{IsFresh, fresh_kept}
 use Rattle.hx_pairs.specs.OnePair.{PairInvariant}
 use Rattle.hx_pairs.specs.AllPairs.{PairsInvariant, held_at, marks_at}

@@ -11,7 +11,7 @@ use Rattle.hx_events.specs.declared.backup.Side.{Side}
 use Rattle.hx_record.specs.Records.{record_in}
 use Rattle.hx_rules.specs.Backups.{Snapshot, snapshot}
 use Rattle.hx_rules.specs.Marks.{Marks}
-use Rattle.hx_slots.specs.Frames.{Frame, framed, frame_in, shown_in}
+use Rattle.hx_slots.specs.Frames.{Frame, framed, shown_in}
 use Rattle.hx_slots.specs.Gate.{closed_shows_nothing}
 use Rattle.hx_vault.specs.Sides.{SideState, Shut, Still, IsSide, puts_none}
 use Rattle.hx_pairs.specs.OnePair.{Quiet, Reads, side_stamp, IsHome, LosesTo, Loses, IsAway, PairInvariant}

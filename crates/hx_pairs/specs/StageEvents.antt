@@ -27,7 +27,7 @@ use Rattle.hx_pairs.specs.AllPairs.{held_at, marks_at}
 use Rattle.hx_pairs.specs.Stages.{IsBlock}
 use Rattle.hx_pairs.specs.Moves.{new_marks}
 use Rattle.hx_pairs.specs.StageEnds.{drop_good, prepare_good, prepare_failed_good, open_good, open_failed_good, fade_good, fade_failed_good, drop_failed_good, body_good, body_failed_good}
-use Rattle.hx_pairs.specs.Registries.{IsPlaced, IsExact, IsPut, HasPut, RegistryInvariant, is_vault_answer, leaves_hold, placed_moved, placed_released, exact_entry, exact_left, putting_moved, putting_released}
+use Rattle.hx_pairs.specs.Registries.{IsPlaced, IsPut, HasPut, RegistryInvariant, is_vault_answer, leaves_hold, placed_moved, placed_released, exact_entry, exact_left, putting_moved, putting_released}
 use Rattle.std.proofs.lemmas.Bool.Decides.{nat_tests}
 use Rattle.hx_pairs.specs.Owners.{released}
 use Rattle.hx_pairs.specs.Owed.{PairsOwe}

@@ -1,9 +1,8 @@
 -- Events on which a resource gets a pair, or gives it back.
-use Rattle.std.specs.Prelude.{◌≡◌, ◌≢◌, ◌<◌, ◌≤◌, ℕ, ◌+◌, Bool, true, false, IsTrue, List, [], ◌∷◌, length, Option, Some, None, is_some, refl}
+use Rattle.std.specs.Prelude.{◌≡◌, ◌≢◌, ◌<◌, ◌≤◌, ℕ, ◌+◌, Bool, true, false, IsTrue, List, ◌∷◌, length, Option, Some, None, is_some, refl}
 use Rattle.std.proofs.Common.{sym, ◌∙◌, ap, subst, ⊎_elim, arith, set}
 use Rattle.std.proofs.lemmas.List.{get_or-set_same, get_or-set_other}
 use Rattle.std.proofs.lemmas.Bool.Decides.{eqb_tells}
-use Rattle.hx_faults.specs.Faults.{Rose}
 use Rattle.hx_disk.specs.File.{FileState}
 use Rattle.hx_disk.specs.Disk.{ChangesNothing}
 use Rattle.hx_events.specs.declared.backup.Backup.{Backup}
@@ -11,8 +10,7 @@ use Rattle.hx_events.specs.declared.event.Event.{Event}
 use Rattle.hx_events.specs.declared.life.Entry.{Entry}
 use Rattle.hx_events.specs.declared.outcome.Outcome.{Outcome}
 use Rattle.hx_events.specs.declared.outcome.Outcome.TheVariants.{Opened, Created, Closed}
-use Rattle.hx_rules.specs.Backups.{Begun, opened, holds}
-use Rattle.hx_rules.specs.Copies.{registered}
+use Rattle.hx_rules.specs.Backups.{Begun, holds}
 use Rattle.hx_rules.specs.Entries.{Deed, deed, own, is_of}
 use Rattle.hx_rules.specs.Legal.{restored_at, is_row, is_legal, holds_at}
 use Rattle.hx_rules.specs.Versions.{versions}
@@ -24,8 +22,8 @@ use Rattle.hx_vault.specs.declared.pair.PairUse.TheVariants.{Free, Taken}
 use Rattle.hx_vault.specs.Vaults.{VaultState, pair_at, with_pair, with_use, no_pair}
 use Rattle.hx_lives.specs.Course.{Course, Start, Past, start_of, opening, opening_at, with_entry}
 use Rattle.hx_lives.specs.Caused.{is_fault}
-use Rattle.hx_lives.specs.Told.{IsFound, IsStamped, takes_stamp, user_file, resource_in}
-use Rattle.hx_pairs.specs.AllPairs.{held_at, marks_at, PairsInvariant}
+use Rattle.hx_lives.specs.Told.{IsFound, user_file, resource_in}
+use Rattle.hx_pairs.specs.AllPairs.{held_at, marks_at}
 use Rattle.hx_pairs.specs.Moves.{same_marks, new_marks}
 use Rattle.hx_pairs.specs.Owners.{taken_over, released}
 use Rattle.hx_pairs.specs.Owed.{PairsOwe}

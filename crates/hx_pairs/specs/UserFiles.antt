@@ -1,17 +1,16 @@
 -- Events that move no slot file: the pairs' invariant stays.
-use Rattle.std.specs.Prelude.{◌≡◌, ◌≢◌, ◌<◌, ◌≤◌, ◌⊎◌, ℕ, ◌+◌, ◌*◌, Bool, true, false, IsTrue, List, [], ◌∷◌, length, Option, Some, None, refl}
+use Rattle.std.specs.Prelude.{◌≡◌, ◌<◌, ◌≤◌, ◌⊎◌, ℕ, ◌+◌, Bool, true, false, IsTrue, List, ◌∷◌, Option, Some, None, refl}
 use Rattle.std.proofs.Common.{sym, ◌∙◌, ap, subst, inl, inr, ⊎_elim, arith}
 use Rattle.hx_faults.specs.Faults.{Rose}
 use Rattle.hx_disk.specs.File.{FileState, IsImage}
 use Rattle.hx_disk.specs.Disk.{Through, ChangesNothing}
-use Rattle.hx_slots.specs.Gate.{IsAnyState, Shows}
+use Rattle.hx_slots.specs.Gate.{IsAnyState}
 use Rattle.hx_slots.specs.Files.{file_of}
-use Rattle.hx_slots.specs.Frames.{Frame, shown_in}
 use Rattle.hx_events.specs.declared.backup.Side.{Side}
 use Rattle.hx_events.specs.declared.backup.Side.TheVariants.{A, B}
 use Rattle.hx_events.specs.declared.life.Entry.{Entry}
 use Rattle.hx_events.specs.declared.outcome.Outcome.{Outcome}
-use Rattle.hx_events.specs.declared.outcome.Outcome.TheVariants.{Idle, Spent, StageOk, StageFault}
+use Rattle.hx_events.specs.declared.outcome.Outcome.TheVariants.{Spent, StageOk, StageFault}
 use Rattle.hx_rules.specs.Allowed.{failed, failed_outcome}
 use Rattle.hx_rules.specs.Entries.{own, is_of}
 use Rattle.hx_rules.specs.Legal.{restored_at, is_row}
@@ -23,10 +22,9 @@ use Rattle.hx_vault.specs.Vaults.{VaultState, pair_at, other_side, is_shut}
 use Rattle.hx_lives.specs.Course.{Course, Start, Past, start_of, opening, with_entry}
 use Rattle.hx_lives.specs.Caused.{is_fault}
 use Rattle.hx_lives.specs.CrashSafe.{name_at}
-use Rattle.hx_lives.specs.Told.{IsFound, IsLeftAlone, IsStamped, takes_stamp, user_file, resource_in, writes_by}
-use Rattle.hx_lives.specs.Calls.{HasGoneOn}
+use Rattle.hx_lives.specs.Told.{IsFound, IsStamped, takes_stamp, user_file, resource_in, writes_by}
 use Rattle.hx_pairs.specs.OnePair.{Quiet}
-use Rattle.hx_pairs.specs.AllPairs.{HasSides, IsOwned, IsQuietPair, IsForeign, held_at, marks_at, IsHolder, PairsInvariant}
+use Rattle.hx_pairs.specs.AllPairs.{HasSides, held_at, marks_at, PairsInvariant}
 use Rattle.hx_pairs.specs.Safe.{kept_safe}
 use Rattle.hx_pairs.specs.Stays.{MarksLess, outcome_less, spent_less, stays, less_all}
 use Rattle.hx_pairs.specs.Owners.{keeps_quiet}
