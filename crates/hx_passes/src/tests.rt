@@ -2,11 +2,11 @@ ghost use Rattle.std.specs.Prelude.{◌≡◌, ◌<◌, ◌+◌, ◌%◌, ◌^�
 ghost use mathlib.Core.List.{IsPrefix};
 ghost use Rattle.hx_events.specs.declared.life.Entry.{Entry};
 ghost use Rattle.hx_passes.specs.declared.rule.Finding.{Finding};
-ghost use Rattle.hx_passes.specs.declared.tests.Staged.{Staged};
+ghost use Rattle.hx_passes.specs.declared.tests.Staged.TheVariants.{Did, Rest, Over};
 ghost use Rattle.hx_passes.specs.Rules.{total};
-ghost use Rattle.hx_passes.specs.Views.{fresh, gives, sees, with_call, with_leave};
+ghost use Rattle.hx_passes.specs.Views.{with_call, with_leave, with_note};
 ghost use Rattle.hx_passes.specs.Closing.{IsClosed};
-ghost use Rattle.hx_passes.specs.Staging.{StagedAs};
+ghost use Rattle.hx_passes.specs.declared.rule.Finding.TheVariants.{NothingDue};
 
 use super::*;
 use hx_events::{Actor, Bytes, Entry, Event, Outcome, ResNo};
@@ -82,11 +82,11 @@ impl<J: Naming> Desk<J> {
     ) -> Result<Staged, AllocError>
         requires says { (h : List Entry) → (f : Finding) → (length h % 2) ≡ 0 → J.says f h }
         ensures parts { pass.new.parts ≡ pass.old.parts }
-        ensures staged { IfOk result (λ s. StagedAs J.windows s self.old self.new pass.old pass.new) }
+        ensures staged { IfOk result (λ s. elim s [ Did n ↦ (e : Entry) × (self.new ≡ self.old ++ e ∷ []) × (n ≡ suc (length self.old)) × (pass.new ≡ with_call e self.old pass.old) | Rest ↦ (left : ℕ) × (left < J.windows) × (self.new ≡ self.old) × (pass.new ≡ with_note (NothingDue kind) left self.old pass.old) | Over ↦ (left : ℕ) × (J.windows ≤ left) × (self.new ≡ self.old) × (pass.new ≡ with_note (NothingDue kind) left self.old pass.old) ]) }
         ensures err { OnErr result ((self.new ≡ self.old) × (pass.new ≡ pass.old)) }
     {
         if self.history.len() % 2 == 1 {
-            return Ok(Staged::Did(self.act(alloc, passes, pass, Event::Vault(ResNo(0)))?));
+            return Ok(Staged::Did(self.act(alloc, passes, pass, Event::Vault(ResNo::new(0)))?));
         }
         if passes.note(&mut self.clerk, pass, Finding::NothingDue(kind)) {
             Ok(Staged::Over)
