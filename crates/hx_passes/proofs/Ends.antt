@@ -1,6 +1,6 @@
 -- What the one seat with all parts knows.
-use Rattle.std.proofs.Common.{◌≡◌, ℕ, zero, suc, ◌+◌, ◌≤◌, ◌<◌, nat_le, Bool, true, false, cond, List, [], ◌∷◌, ◌++◌, length, refl, ap, sym, ◌∙◌, subst, arith}
-use mathlib.Core.Option.{Option, some}
+use Rattle.std.proofs.Common.{◌≡◌, ℕ, ◌+◌, nat_le, Bool, true, false, cond, List, [], ◌∷◌, ◌++◌, length, refl, ap, sym, ◌∙◌, subst, arith}
+use mathlib.Core.Option.{some}
 use mathlib.Core.List.{IsPrefix}
 use lib.ListN.{get_elem?}
 use Rattle.hx_events.specs.declared.life.Entry.{Entry}
@@ -11,7 +11,7 @@ use Rattle.hx_passes.specs.declared.rule.Known.{Known}
 use Rattle.hx_passes.specs.declared.rule.Note.{Note}
 use Rattle.hx_passes.specs.declared.rule.View.{View}
 use Rattle.hx_passes.specs.Views.{view_of, both, known}
-use Rattle.hx_passes.specs.Rules.{Each, total, one_if, times, up_to, below, IsMade, Stands, Fits, Kept, LooksAt}
+use Rattle.hx_passes.specs.Rules.{Each, total, one_if, times, up_to, below, IsMade, Stands, Kept, LooksAt}
 use Rattle.hx_passes.specs.Closing.{IsNoted, Ends, TakesIn, IsOwn, IsSound, Holds, Knows, IsClosed}
 use Rattle.hx_passes.proofs.Lists.{prefix_trans, each_map, each_left, each_right}
 use Rattle.hx_passes.proofs.Totals.{sole, up_to_none, below_none}

@@ -1,5 +1,5 @@
 -- Beginnings of one list, and facts on each of a list.
-use Rattle.std.proofs.Common.{◌≡◌, ℕ, zero, suc, ◌<◌, ◌≤◌, List, [], ◌∷◌, ◌++◌, length, Some, slice_get, refl, ap, sym, ◌∙◌, arith, append_assoc}
+use Rattle.std.proofs.Common.{◌≡◌, ℕ, zero, suc, ◌≤◌, List, [], ◌∷◌, ◌++◌, length, Some, slice_get, refl, ap, sym, ◌∙◌, arith, append_assoc}
 use mathlib.Core.List.{IsPrefix}
 use Rattle.hx_events.specs.declared.life.Entry.{Entry}
 use Rattle.hx_passes.specs.Rules.{Each, at_place}

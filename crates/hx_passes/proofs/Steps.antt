@@ -1,19 +1,18 @@
 -- Each kind of step keeps the rule.
-use Rattle.std.proofs.Common.{◌≡◌, ◌≢◌, ℕ, zero, suc, ◌+◌, ◌-◌, ◌≤◌, ◌<◌, ◌%◌, ◌^◌, nat_le, nat_lt, ◌==◌, Bool, true, false, cond, List, [], ◌∷◌, ◌++◌, length, slice_set, slice_index, Some, refl, ap, sym, ◌∙◌, subst, ◌⊎◌, inl, inr, ⊎_elim, arith, length-append}
-use mathlib.Core.Option.{Option, some, none}
+use Rattle.std.proofs.Common.{◌≡◌, ◌≢◌, ℕ, suc, ◌+◌, ◌≤◌, ◌<◌, ◌%◌, ◌^◌, nat_le, ◌==◌, Bool, true, false, cond, List, [], ◌∷◌, ◌++◌, length, slice_set, slice_index, refl, ap, sym, ◌∙◌, subst, ⊎_elim, arith, length-append}
+use mathlib.Core.Option.{some}
 use mathlib.Core.List.{IsPrefix}
 use lib.ListN.{get_elem?, set}
-use Rattle.atomic_table.specs.Table.{State, Me, Step, Allows, Splits, Joins, Act, keeps, stepped, Valid}
+use Rattle.atomic_table.specs.Table.{State, Me, Step, Allows, Splits, Joins, keeps}
 use Rattle.atomic_table.proofs.Lists.{at_set, at_snoc, set_else}
 use Rattle.hx_events.specs.declared.life.Entry.{Entry}
-use Rattle.hx_passes.specs.declared.rule.Call.{Call}
 use Rattle.hx_passes.specs.declared.rule.Finding.{Finding}
 use Rattle.hx_passes.specs.declared.rule.Note.{Note}
 use Rattle.hx_passes.specs.declared.rule.View.{View}
-use Rattle.hx_passes.specs.Views.{view_of, call_at, note_of, parts_left, parts_moved, without_right, slip, both, spent, grown, departed, noting}
-use Rattle.hx_passes.specs.Rules.{Each, total, one_if, times, up_to, below, at_place, IsMade, Stands, Fits, Kept, LooksAt, Looks, Adds, Departs, NotesDown}
-use Rattle.hx_passes.proofs.Lists.{prefix_self, prefix_more, prefix_trans, prefix_length, get_last, each_map, each_append, place_more}
-use Rattle.hx_passes.proofs.Totals.{total_set, total_same, total_push, total_one, total_two, total_most, total_less, times_append, up_to_append, below_append, one_more, is_one, is_none, up_to_all, below_most}
+use Rattle.hx_passes.specs.Views.{view_of, note_of, parts_left, parts_moved, without_right, slip, both, spent, grown, departed, noting}
+use Rattle.hx_passes.specs.Rules.{Each, total, one_if, times, up_to, below, IsMade, Stands, Fits, Kept, Looks, Adds, Departs, NotesDown}
+use Rattle.hx_passes.proofs.Lists.{prefix_self, prefix_more, prefix_length, get_last, each_map, each_append, place_more}
+use Rattle.hx_passes.proofs.Totals.{total_set, total_same, total_push, total_two, total_most, total_less, times_append, up_to_append, below_append, one_more, is_none, up_to_all, below_most}
 
 abbrev pub rule : List Entry → ℕ → State (Unit {0}) View → Type 0
 rule before all s = Kept before all s.words s.views

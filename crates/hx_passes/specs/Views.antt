@@ -54,6 +54,10 @@ spent = view_of [] [] [] [] [] 0 false
 abbrev pub clerk_of : List Entry → View
 clerk_of h = view_of h [] [] [] [] 0 true
 
+-- a view in the lock: it has seen the whole history, and may add
+abbrev pub in_lock : List Entry → View → View
+in_lock h v = view_of h [] v.calls v.notes v.leaves v.parts true
+
 -- the view with one entry more, as its own
 abbrev pub grown : View → Entry → View
 grown v e = view_of (v.seen ++ e ∷ []) v.told (call_at (suc (length v.seen)) e ∷ v.calls) v.notes v.leaves v.parts v.right

@@ -199,11 +199,9 @@ impl<J: Naming> Passes<J> {
         ensures seen { IsPrefix pass.old.seen clerk.old }
         ensures pass { pass.new ≡ with_call entry.now clerk.old pass.old }
     {
-        self.words.hand_over(&mut clerk.seat, &mut pass.seat);
-        self.words.look(&mut pass.seat);
+        self.words.lend(&mut clerk.seat, &mut pass.seat);
         self.words.add::<Brand>(&mut pass.seat, entry);
-        self.words.hand_over(&mut pass.seat, &mut clerk.seat);
-        self.words.look(&mut clerk.seat)
+        self.words.give_back(&mut pass.seat, &mut clerk.seat)
     }
 
     /// Notes for the pass what the lock's holder has found of the history, and answers whether all windows had left then.
@@ -213,11 +211,9 @@ impl<J: Naming> Passes<J> {
         ensures seen { IsPrefix pass.old.seen clerk.old }
         ensures pass { (left : ℕ) × (pass.new ≡ with_note finding left clerk.old pass.old) × (result ≡ nat_le J.windows left) }
     {
-        self.words.hand_over(&mut clerk.seat, &mut pass.seat);
-        self.words.look(&mut pass.seat);
+        self.words.lend(&mut clerk.seat, &mut pass.seat);
         let left = self.words.note::<Brand>(&mut pass.seat, finding);
-        self.words.hand_over(&mut pass.seat, &mut clerk.seat);
-        self.words.look(&mut clerk.seat);
+        self.words.give_back(&mut pass.seat, &mut clerk.seat);
         self.windows <= left
     }
 
@@ -228,11 +224,9 @@ impl<J: Naming> Passes<J> {
         ensures seen { IsPrefix pass.old.seen clerk.old }
         ensures pass { pass.new ≡ with_leave clerk.old pass.old }
     {
-        self.words.hand_over(&mut clerk.seat, &mut pass.seat);
-        self.words.look(&mut pass.seat);
+        self.words.lend(&mut clerk.seat, &mut pass.seat);
         self.words.depart(&mut pass.seat);
-        self.words.hand_over(&mut pass.seat, &mut clerk.seat);
-        self.words.look(&mut clerk.seat);
+        self.words.give_back(&mut pass.seat, &mut clerk.seat);
     }
 
     /// Ends the words. The passes have all the parts together, so they are all that there are.

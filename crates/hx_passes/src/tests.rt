@@ -150,10 +150,19 @@ fn by_hand<J: Naming, R: Abort>(
     assert_eq!(rt; passes.front(&mut window), 0);
     assert_eq!(rt; desk.act(alloc, &passes, &mut window, Event::Quit)?, 1);
     assert_eq!(rt; passes.front(&mut closer), 1);
-    assert_eq!(rt; answer(&desk.stage(alloc, &passes, &mut writer, Kind::Vault)?), 2);
-    assert_eq!(rt; answer(&desk.stage(alloc, &passes, &mut writer, Kind::Vault)?), 100);
+    assert_eq!(rt;
+        answer(&desk.stage(alloc, &passes, &mut writer, Kind::Vault)?),
+        2
+    );
+    assert_eq!(rt;
+        answer(&desk.stage(alloc, &passes, &mut writer, Kind::Vault)?),
+        100
+    );
     desk.leave(&passes, &mut window);
-    assert_eq!(rt; answer(&desk.stage(alloc, &passes, &mut writer, Kind::Save)?), 200);
+    assert_eq!(rt;
+        answer(&desk.stage(alloc, &passes, &mut writer, Kind::Save)?),
+        200
+    );
     passes.meet(&mut writer, notice);
     assert_eq!(rt; passes.front(&mut closer), 2);
     others.push(window).map_err(|_| AllocError)?;

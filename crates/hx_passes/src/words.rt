@@ -1,12 +1,14 @@
 //! The two words, with one method for each kind of step. Each says the whole view that the step leaves.
 
 ghost use Rattle.std.specs.Prelude.{◌≡◌, ◌<◌, ◌≤◌, ◌^◌, [], false, true, length};
+ghost use mathlib.Core.List.{IsPrefix};
 ghost use Rattle.hx_passes.specs.Rules.{LooksAt};
-ghost use Rattle.hx_passes.specs.Views.{both, departed, grown, noting, parts_left, parts_moved, slip, without_right};
+ghost use Rattle.hx_passes.specs.Views.{both, clerk_of, departed, grown, in_lock, noting, parts_left, parts_moved, slip, without_right};
 ghost use Rattle.hx_passes.specs.Closing.{Ends, TakesIn};
 
 use crate::rule::{
-    Add, Both, Counting, Cut, Depart, Finding, Finds, HandOver, Law, Look, Notes, Opening, Saying, View,
+    Add, Both, Counting, Cut, Depart, Finding, Finds, HandOver, Law, Look, Notes, Opening, Saying,
+    View,
 };
 use atomic_table::{Seat, Table};
 use hx_events::Entry;
@@ -120,12 +122,32 @@ impl<J: Naming> Words<J> {
         self.table.shared.join_seat::<Both>(to, slip);
     }
 
+    /// Lends a pass the clerk's right, and looks: the pass has then seen the whole history.
+    pub(crate) fn lend(&self, clerk: &mut Seat<(), View>, pass: &mut Seat<(), View>)
+        requires clerk { (clerk.old.table_id ≡ J.table) × (clerk.old.me ≡ (clerk_of clerk.old.me.0.seen, [])) }
+        requires pass { (pass.old.table_id ≡ J.table) × (pass.old.me.1 ≡ []) }
+        ensures clerk { (clerk.new.table_id ≡ J.table) × (clerk.new.me ≡ (without_right clerk.old.me.0, [])) }
+        ensures pass { (pass.new.table_id ≡ J.table) × (pass.new.me ≡ (in_lock clerk.old.me.0.seen pass.old.me.0, [])) }
+        ensures seen { IsPrefix pass.old.me.0.seen clerk.old.me.0.seen }
+    {
+        self.hand_over(clerk, pass);
+        self.look(pass);
+    }
+
+    /// Gives the clerk its right back, and looks: the clerk has then seen what the pass has. It answers the history's length.
+    pub(crate) fn give_back(&self, pass: &mut Seat<(), View>, clerk: &mut Seat<(), View>) -> u64
+        requires pass { (pass.old.table_id ≡ J.table) × (pass.old.me.1 ≡ []) × (pass.old.me.0.right ≡ true) }
+        requires clerk { (clerk.old.table_id ≡ J.table) × (clerk.old.me ≡ (without_right (clerk_of clerk.old.me.0.seen), [])) }
+        ensures pass { (pass.new.table_id ≡ J.table) × (pass.new.me ≡ (without_right pass.old.me.0, [])) }
+        ensures clerk { (clerk.new.table_id ≡ J.table) × (clerk.new.me ≡ (clerk_of pass.old.me.0.seen, [])) }
+        ensures length { result ≡ length pass.old.me.0.seen }
+    {
+        self.hand_over(pass, clerk);
+        self.look(clerk)
+    }
+
     /// Cuts parts off, whose number the call names for the proof.
-    pub(crate) fn cut<C: Counting>(
-        &self,
-        seat: &mut Seat<(), View>,
-        parts: u64,
-    ) -> Seat<(), View>
+    pub(crate) fn cut<C: Counting>(&self, seat: &mut Seat<(), View>, parts: u64) -> Seat<(), View>
         requires table { (seat.old.table_id ≡ J.table) × (seat.old.me.1 ≡ []) }
         requires named { parts ≡ C.parts }
         requires fewer { parts < seat.old.me.0.parts }

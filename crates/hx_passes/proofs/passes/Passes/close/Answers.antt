@@ -1,4 +1,4 @@
-use Rattle.std.proofs.Common.{◌≡◌, ◌≤◌, ◌++◌, ◌∷◌, [], ℕ, List, length, ap, subst, sym, arith}
+use Rattle.std.proofs.Common.{◌≡◌, ◌≤◌, ◌++◌, ◌∷◌, [], List, length, ap, subst, sym, arith}
 use Rattle.hx_events.specs.declared.life.Entry.{Entry}
 use Rattle.hx_passes.specs.declared.rule.Known.{Known}
 use Rattle.hx_passes.specs.Rules.{Each, times, total, up_to, below}
@@ -58,8 +58,8 @@ returns g c =
     let passes : List Known = c.args.first ∷ c.args.others.items in
     let empty : length items ≤ 0 = omega (arith, c.in_default.ensures.cases.0, c.loop-pass.others.ok.0) in
     subst (λ (h : List Entry). IsClosed n.before n.windows n.says h passes) c.clerk.view_is
-        (closed n.before n.windows n.says h v passes c.close.ensures
-        (λ n. omega (arith, i.at_most n, total_none (λ (p : Known). up_to n p.leaves) items empty))
-        (λ n. omega (arith, i.before_it n, total_none (λ (p : Known). below n p.leaves) items empty))
-        (λ n. omega (arith, i.once n, total_none (λ (p : Known). times n p.calls) items empty))
-        (λ told. i.sound h (λ n. up_to n v.leaves) (λ n. below n v.leaves) told (each_none (IsSound n.says h (λ n. up_to n v.leaves) (λ n. below n v.leaves)) items empty)))
+    (closed n.before n.windows n.says h v passes c.close.ensures
+    (λ n. omega (arith, i.at_most n, total_none (λ (p : Known). up_to n p.leaves) items empty))
+    (λ n. omega (arith, i.before_it n, total_none (λ (p : Known). below n p.leaves) items empty))
+    (λ n. omega (arith, i.once n, total_none (λ (p : Known). times n p.calls) items empty))
+    (λ told. i.sound h (λ n. up_to n v.leaves) (λ n. below n v.leaves) told (each_none (IsSound n.says h (λ n. up_to n v.leaves) (λ n. below n v.leaves)) items empty)))

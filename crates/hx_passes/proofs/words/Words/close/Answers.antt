@@ -16,4 +16,4 @@ returns g c =
     let e = r.empty in
     let looks = subst (λ (u : View). LooksAt u c.look.result c.look.new.seat.me.0) (ap (λ m. m.0) c.join.ensures.me) c.look.ensures.looks in
     subst (λ (b : List Entry). Ends b c.args.clerk.me.0.seen c.args.seat.me.0) c.args.self.before
-        (closing _ _ s.0.words s.0.views _ c.args.seat.me.0 c.args.clerk.me.0 c.look.new.seat.me.0 c.look.result s.1.0 s.1.1 (r.seat.2 ∙ sym c.args.self.parts) r.right e.0 e.1 e.2 e.3 looks)
+    (closing _ _ s.0.words s.0.views _ c.args.seat.me.0 c.args.clerk.me.0 c.look.new.seat.me.0 c.look.result s.1.0 s.1.1 (r.seat.2 ∙ sym c.args.self.parts) r.right e.0 e.1 e.2 e.3 looks)
