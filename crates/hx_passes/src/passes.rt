@@ -10,9 +10,9 @@ use crate::rule::{Finding, HandOver, Law, Opening, View};
 use crate::words::{Naming, Words};
 use atomic_table::{Seat, Table};
 use hx_events::{Actor, Entry};
+use hx_ghost::GhostList;
 use std::alloc::{AllocError, Global};
 use std::marker::{Brand, Model, PhantomData};
-use std::snapshot::Snapshot;
 
 /// A caller's token: whose it is, and what it knows of the history.
 #[derive(Drop)]
@@ -77,9 +77,9 @@ impl Model for Opened {
 
     ghost Value = { Founding };
 
-    ghost view = { λ o. record { table = o.table.shared.table_id; before = o.table.shared.key.before.value.items; parts = o.table.shared.key.parts; windows = o.windows } };
+    ghost view = { λ o. record { table = o.table.shared.table_id; before = o.table.shared.key.before.items; parts = o.table.shared.key.parts; windows = o.windows } };
 
-    ghost invariant = { λ o. (o.seat.table_id ≡ o.table.shared.table_id) × (o.table.shared.table_id.words ≡ 2) × (o.table.shared.table_id.slots ≡ 0) × (o.seat.me ≡ (first_view o.table.shared.key.before.value.items o.table.shared.key.parts, [])) × (1 ≤ o.table.shared.key.parts) × (o.table.shared.key.parts < 2 ^ 64) };
+    ghost invariant = { λ o. (o.seat.table_id ≡ o.table.shared.table_id) × (o.table.shared.table_id.words ≡ 2) × (o.table.shared.table_id.slots ≡ 0) × (o.seat.me ≡ (first_view o.table.shared.key.before.items o.table.shared.key.parts, [])) × (1 ≤ o.table.shared.key.parts) × (o.table.shared.key.parts < 2 ^ 64) };
 }
 
 impl Opened {
@@ -90,17 +90,16 @@ impl Opened {
     /// Want of memory.
     pub fn new(
         alloc: Global,
-        history: &Vec<Entry>,
+        history: &[Entry],
         windows: u64,
         parts: u64,
     ) -> Result<Opened, AllocError>
         requires { 1 ≤ parts }
-        ensures { IfOk result (λ o. (o.before ≡ history.now.items) × (o.parts ≡ parts) × (o.windows ≡ windows)) }
+        ensures { IfOk result (λ o. (o.before ≡ history.now) × (o.parts ≡ parts) × (o.windows ≡ windows)) }
     {
-        let about = Opening {
-            parts,
-            before: Snapshot::of(history),
-        };
+        let mut before = GhostList::new();
+        before.extend(&history);
+        let about = Opening { parts, before };
         let (table, seat) = Table::of_words(alloc, &[history.len() as u64, 0], &about)?;
         Ok(Opened {
             table,

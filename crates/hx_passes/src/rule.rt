@@ -2,9 +2,9 @@
 
 use atomic_table::{Join, Play, Split, TableRule};
 use hx_events::{Actor, Entry, ResNo};
+use hx_ghost::GhostList;
 use std::collections::LinkedList;
 use std::marker::{Brand, PhantomData};
-use std::snapshot::Snapshot;
 
 /// The two kinds of stage that workers do.
 #[derive(Clone, Copy, Debug, PartialEq, Eq)]
@@ -96,7 +96,7 @@ pub struct Known {
 #[derive(Drop)]
 pub struct Opening {
     pub parts: u64,
-    pub before: Snapshot<Vec<Entry>>,
+    pub before: GhostList<Entry>,
 }
 
 /// The rule of the two words.
@@ -106,9 +106,9 @@ impl TableRule<(), View, Opening> for Law {
     ghost use Rattle.hx_passes.specs.Rules.{Kept};
     ghost use Rattle.hx_passes.specs.Views.{first_view};
 
-    ghost holds = { λ about s. Kept about.before.value.items about.parts s.words s.views };
+    ghost holds = { λ about s. Kept about.before.items about.parts s.words s.views };
 
-    ghost first = { λ about. first_view about.before.value.items about.parts };
+    ghost first = { λ about. first_view about.before.items about.parts };
 }
 
 /// A load of the first word.

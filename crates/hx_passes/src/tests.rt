@@ -125,7 +125,7 @@ fn answer(staged: &Staged) -> u64 {
 #[test]
 fn one_thread(rt: HostRuntime) -> Result<(), Fail> {
     let history = Vec::new(rt.alloc());
-    let opened = Opened::new(rt.alloc(), &history, 1, 4)?;
+    let opened = Opened::new(rt.alloc(), history.as_slice(), 1, 4)?;
     by_hand::<Brand, _>(&rt, rt.alloc(), history, opened)
 }
 
@@ -186,7 +186,7 @@ fn two_threads(rt: HostRuntime) -> Result<(), Fail> {
             content: Bytes::new(Vec::new(rt.alloc())),
         })
         .map_err(|_| AllocError)?;
-    let opened = Opened::new(rt.alloc(), &history, 2, 3)?;
+    let opened = Opened::new(rt.alloc(), history.as_slice(), 2, 3)?;
     by_two::<Brand, _>(&rt, rt.alloc(), history, opened)
 }
 

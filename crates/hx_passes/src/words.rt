@@ -44,7 +44,7 @@ pub(crate) struct Words<J: Naming> {
     ghost table_is: { table.shared.table_id ≡ J.table },
     ghost words: { table.shared.table_id.words ≡ 2 },
     ghost slots: { table.shared.table_id.slots ≡ 0 },
-    ghost before: { table.shared.key.before.value.items ≡ J.before },
+    ghost before: { table.shared.key.before.items ≡ J.before },
     ghost parts: { table.shared.key.parts ≡ J.parts },
     ghost few: { J.parts < 2 ^ 64 },
 }
@@ -54,7 +54,7 @@ impl<J: Naming> Words<J> {
         requires table { table.shared.table_id ≡ J.table }
         requires words { table.shared.table_id.words ≡ 2 }
         requires slots { table.shared.table_id.slots ≡ 0 }
-        requires before { table.shared.key.before.value.items ≡ J.before }
+        requires before { table.shared.key.before.items ≡ J.before }
         requires parts { table.shared.key.parts ≡ J.parts }
         requires few { table.shared.key.parts < 2 ^ 64 }
     {
