@@ -1,0 +1,6 @@
+pub mod Kept
+pub mod Rows
+pub mod Asks
+pub mod Rooms
+pub mod Decided
+pub mod Makes

@@ -1,0 +1,10 @@
+pub mod Fits
+pub mod CopyFits
+pub mod SlotFits
+pub mod RunFits
+pub mod StepFits
+pub mod RowFits
+pub mod RowAsks
+pub mod Starts
+pub mod Laws
+pub mod Counts
