@@ -8,3 +8,4 @@ pub mod RowAsks
 pub mod Starts
 pub mod Laws
 pub mod Counts
+pub mod AskFits

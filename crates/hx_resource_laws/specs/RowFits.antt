@@ -121,11 +121,11 @@ no_flush over a b (Saved n x) = refl
 no_flush over a b (Unguarded n) = refl
 no_flush over a b _ = refl
 
-places_ids : (a : List ℕ) (id : ℕ) (ps : List Place) → has_places ps ≡ can_undo (trail_of (id ∷ ids ps) a)
+pub places_ids : (a : List ℕ) (id : ℕ) (ps : List Place) → has_places ps ≡ can_undo (trail_of (id ∷ ids ps) a)
 places_ids a id [] = refl
 places_ids a id (p ∷ ps) = refl
 
-places_ahead : (b : List ℕ) (ps : List Place) → has_places ps ≡ can_redo (trail_of b (ids ps))
+pub places_ahead : (b : List ℕ) (ps : List Place) → has_places ps ≡ can_redo (trail_of b (ids ps))
 places_ahead b [] = refl
 places_ahead b (p ∷ ps) = refl
 

@@ -1,0 +1,5 @@
+pub mod Listed
+pub mod Cores
+pub mod Lowest
+pub mod Keeping
+pub mod Stepping
