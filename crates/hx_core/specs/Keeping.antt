@@ -62,7 +62,7 @@ row_is o es (Vault c) outcome known = refl
 row_is o es (Flush c) outcome known = refl
 row_is o es Quit outcome known = absurd known
 
-slice_get_set : {A : Type 0} (xs : List A) (i k : ℕ) (x y : A) → slice_get (set xs i x) k ≡ Some y → ((k ≡ i) × (y ≡ x)) ⊎ ((k ≢ i) × (slice_get xs k ≡ Some y))
+pub slice_get_set : {A : Type 0} (xs : List A) (i k : ℕ) (x y : A) → slice_get (set xs i x) k ≡ Some y → ((k ≡ i) × (y ≡ x)) ⊎ ((k ≢ i) × (slice_get xs k ≡ Some y))
 slice_get_set [] i k x y h = absurd cc
 slice_get_set (z ∷ zs) zero zero x y h = inl (refl, cc)
 slice_get_set (z ∷ zs) zero (suc k) x y h = inr ((λ e. absurd (omega arith)), h)

@@ -3,3 +3,5 @@ pub mod Cores
 pub mod Lowest
 pub mod Keeping
 pub mod Stepping
+pub mod States
+pub mod Reading

@@ -35,6 +35,17 @@ named_known (Vault c) i h = tt
 named_known (Flush c) i h = tt
 named_known Quit i h = absurd cc
 
+-- Who answers an event of the resource i, by what is kept of it.
+pub asks_here : (o : Opening) (es : List Entry) (e : Event) (i : ℕ) (s : Kept) (lacks : Bool) → named e ≡ Some i → lacks ≡ (takes_pair e && lacks_pair o es i) → Fits (restored_at o i) o.guarded (own i es) s
+    → asks_kept o.guarded lacks s e ≡ asks_at o es e
+asks_here o es e i s lacks of is fits =
+    let number = named_number e i of in
+    asks_kept_at o es e s lacks (named_known e i of) (is ∙ ap (λ k. takes_pair e && lacks_pair o es k) number) (subst (λ (k : ℕ). Fits (restored_at o k) o.guarded (own k es) s) number fits)
+
+-- The counts of a resource can go on while the history is in memory.
+pub last_counts : (o : Opening) (h : List Entry) (i : ℕ) (s : Kept) → Fits (restored_at o i) o.guarded (own i (past h)) s → length h < 2 ^ 63 → CanCount s
+last_counts o h i s fits few = can_count (restored_at o i) o.guarded (own i (past h)) s fits (omega (arith, few, own_count i (past h), length-reverse h))
+
 -- The event e of the resource i, whose state is s, comes to a core after the history h.
 pub record Comes (o : Opening) (first : List (ℕ × ℕ)) (resources : List ResourceState) (pairs : List (ℕ × ℕ)) (h : List Entry) (spent : Bool) (vault save : List Bool) (e : Event) (i : ℕ) (s : ResourceState) (lacks : Bool) : Type 0 where
   pub core : IsCore o first resources pairs h spent vault save

@@ -6,7 +6,9 @@
 
 mod core;
 mod readers;
+mod state;
 mod step;
 
 pub use crate::core::Core;
 pub use hx_resource::{Asked, BegunBackup, Got, Work};
+pub use state::CopyState;

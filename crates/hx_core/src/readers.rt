@@ -5,8 +5,12 @@ ghost use Rattle.hx_rules.specs.Entries.{own, past};
 ghost use Rattle.hx_rules.specs.Versions.{version_at, versions};
 ghost use Rattle.hx_rules.specs.Copies.{registered};
 ghost use Rattle.hx_rules.specs.Saves.{running, save_steps};
+ghost use Rattle.hx_rules.specs.Due.{run_version};
 ghost use Rattle.hx_rules.specs.Backups.{begun, done};
-ghost use Rattle.hx_rules.specs.Legal.{restored_at, holds_at, lacks_pair, count_below, is_unsafe, lowest, lowest_vault_due, lowest_save_due};
+ghost use Rattle.hx_rules.specs.Legal.{restored_at, holds_at, lacks_pair, count_below, is_unsafe, lowest, lowest_vault_due, lowest_save_due, vault_due, save_due};
+ghost use Rattle.hx_tracker.specs.Index.{has_number};
+ghost use Rattle.hx_resource.specs.Kept.{dirty_now};
+ghost use Rattle.hx_core.specs.States.{state_of, state_by};
 ghost use Rattle.hx_seq.specs.Keeps.{Keeps};
 ghost use Rattle.hx_resource_laws.specs.Fits.{Fits, FitsCopy};
 ghost use Rattle.hx_core.specs.Listed.{listed};
@@ -15,6 +19,7 @@ use crate::core::Core;
 use hx_backups::Backups;
 use hx_copy::WorkingCopy;
 use hx_events::{Entry, Names, ResNo};
+use crate::state::CopyState;
 use hx_resource::{BegunBackup, Resource};
 use hx_seq::Sequencer;
 use hx_tracker::DueIndex;
@@ -47,6 +52,62 @@ impl Core {
         ensures { result ≡ holds_at self.now.opening (past self.now.history) res }
     {
         self.resource(res).holds()
+    }
+
+    /// The copy, or none exactly where it isn't registered.
+    pub fn copy(&self, res: ResNo) -> Option<&WorkingCopy>
+        requires { res < length self.now.resources }
+        ensures there { is_some result ≡ registered (restored_at self.now.opening res) (own res (past self.now.history)) }
+        ensures copy { IfSome result (λ copy. FitsCopy (restored_at self.now.opening res) (own res (past self.now.history)) copy.now.copy) }
+    {
+        self.resource(res).copy()
+    }
+
+    /// The snapshot of the backup that is begun, or none exactly where none is.
+    pub fn begun(&self, res: ResNo) -> Option<&BegunBackup>
+        requires { res < length self.now.resources }
+        ensures { option_map (λ b. b.now) result ≡ begun (restored_at self.now.opening res) self.now.opening.guarded (own res (past self.now.history)) }
+    {
+        self.resource(res).begun()
+    }
+
+    /// The content of the version that is being saved, or none exactly where no save runs.
+    pub fn saving(&self, res: ResNo) -> Option<&[u8]>
+        requires { res < length self.now.resources }
+        ensures runs { is_some result ≡ is_some (running (save_steps (restored_at self.now.opening res) (own res (past self.now.history)))) }
+        ensures content { IfSome result (λ content. content.now ≡ (version_at (run_version (running (save_steps (restored_at self.now.opening res) (own res (past self.now.history))))) (versions (restored_at self.now.opening res) (own res (past self.now.history)))).content) }
+    {
+        saving_in(self.resource(res))
+    }
+
+    /// What the copy is in: the first of these that holds.
+    pub fn state(&self, res: ResNo) -> CopyState
+        requires { res < length self.now.resources }
+        ensures { result ≡ state_of (restored_at self.now.opening res) (own res (past self.now.history)) }
+    {
+        state_in(self.resource(res))
+    }
+
+    /// The resources for which a vault stage is due.
+    pub fn vault_index(&self) -> &DueIndex
+        ensures { (k : ℕ) → k < length self.now.resources → has_number result.now k ≡ is_some (vault_due self.now.opening (past self.now.history) k) }
+    {
+        &self.vault
+    }
+
+    /// The resources for which a save stage is due.
+    pub fn save_index(&self) -> &DueIndex
+        ensures { (k : ℕ) → k < length self.now.resources → has_number result.now k ≡ is_some (save_due self.now.opening (past self.now.history) k) }
+    {
+        &self.save
+    }
+
+    /// Ends the life, and hands out its names and its entries.
+    pub fn finish(self) -> (Names, Vec<Entry>)
+        ensures names { result.0 ≡ self.names }
+        ensures history { result.1.items ≡ self.history }
+    {
+        (self.names, self.history)
     }
 
     /// The version of the resource's completed backup, or none exactly where it has none.
@@ -127,5 +188,29 @@ impl Core {
         ensures { result ≡ lowest_save_due self.now.opening (past self.now.history) }
     {
         self.save.lowest()
+    }
+}
+
+fn saving_in(resource: &Resource) -> Option<&[u8]>
+    ensures runs { is_some result ≡ is_some resource.now.kept.seq.run }
+    ensures content { IfSome result (λ content. content.now ≡ resource.now.kept.saving) }
+{
+    match resource.running() {
+        None => None,
+        Some(_) => Some(resource.saving()),
+    }
+}
+
+fn state_in(resource: &Resource) -> CopyState
+    ensures { result ≡ state_by (is_some resource.now.kept.copy) (is_some resource.now.kept.seq.run) (dirty_now resource.now.kept.copy) }
+{
+    if !resource.is_open() {
+        CopyState::NotOpen
+    } else if resource.running().is_some() {
+        CopyState::Saving
+    } else if resource.is_dirty() {
+        CopyState::Dirty
+    } else {
+        CopyState::Clean
     }
 }

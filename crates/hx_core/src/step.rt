@@ -1,6 +1,6 @@
 //! One step of a life.
 
-ghost use Rattle.std.specs.Prelude.{◌≡◌, ◌+◌, ◌<◌, ◌^◌, ◌∷◌, ◌++◌, ◌||◌, ◌&&◌, [], true, length, Some, None};
+ghost use Rattle.std.specs.Prelude.{◌≡◌, ℕ, OnOk, ◌+◌, ◌<◌, ◌≤◌, ◌^◌, ◌∷◌, ◌++◌, ◌||◌, ◌&&◌, [], true, length, Some, None};
 ghost use Rattle.hx_events.specs.declared.event.Event.TheVariants.{Act};
 ghost use Rattle.hx_events.specs.Texts.{resource_of};
 ghost use Rattle.hx_events.specs.declared.life.Entry.{Entry};
@@ -9,13 +9,13 @@ ghost use Rattle.hx_rules.specs.Legal.{is_row, is_spent, is_unsafe, lacks_pair, 
 ghost use Rattle.hx_resource.specs.Asks.{FitsAsked};
 ghost use Rattle.hx_resource.specs.Rooms.{got_content};
 ghost use Rattle.hx_core.specs.Listed.{listed_after, res_of};
-ghost use Rattle.hx_core.specs.Cores.{IsEventOf, StepRoom, asks_at, named, outcome_at, quit_outcome, takes_pair, ListRoom};
+ghost use Rattle.hx_core.specs.Cores.{BackupsRoom, IsEventOf, ResourceRoom, StepRoom, asks_at, named, outcome_at, quit_outcome, takes_pair, ListRoom};
 
 use crate::core::Core;
 use hx_backups::Backups;
 use hx_events::{Actor, Bytes, Command, Entry, Event, Outcome, ResNo, Stage};
 use hx_resource::{Asked, Got};
-use std::alloc::Global;
+use std::alloc::{AllocError, Global};
 
 impl Core {
     /// Takes one event with the device's answer, and adds one entry. The outcome is the one that the rules settle, or the one
@@ -45,6 +45,100 @@ impl Core {
         }
     }
 
+    /// Who answers the event: the rules alone, with the outcome, or the device, by the work that it has to do.
+    pub fn ask(&self, event: &Event) -> Asked
+        requires known { IsEventOf (length self.now.resources) event.now }
+        ensures { result ≡ asks_at self.now.opening (past self.now.history) event.now }
+    {
+        match named(event) {
+            Some(res) => self.ask_of(res, event),
+            None => self.ask_quit(event),
+        }
+    }
+
+    fn ask_of(&self, res: ResNo, event: &Event) -> Asked
+        requires named { named event.now ≡ Some res }
+        requires known { res < length self.now.resources }
+        ensures { result ≡ asks_at self.now.opening (past self.now.history) event.now }
+    {
+        // A history in memory is short enough for the counts to go on.
+        let _ = self.next_place();
+        let lacks = self.lacks_for(res, event);
+        let resource = self.resource(res);
+        resource.ask(self.guarded, lacks, event)
+    }
+
+    fn ask_quit(&self, event: &Event) -> Asked
+        requires quit { named event.now ≡ None }
+        ensures { result ≡ asks_at self.now.opening (past self.now.history) event.now }
+    {
+        let _ = event;
+        Asked::Settled(self.quit_outcome())
+    }
+
+    /// Makes room for one step by this event that reads at most so many bytes of a file, by what the event needs and no more.
+    /// Nothing else changes.
+    pub fn reserve(&mut self, event: &Event, read: u64) -> Result<(), AllocError>
+        requires known { IsEventOf (length self.old.resources) event.now }
+        ensures room { OnOk result ((n : ℕ) → n ≤ read → StepRoom event.now n self.new) }
+        ensures opening { self.new.opening ≡ self.old.opening }
+        ensures names { self.new.names ≡ self.old.names }
+        ensures first { self.new.first ≡ self.old.first }
+        ensures history { self.new.history ≡ self.old.history }
+        ensures count { length self.new.resources ≡ length self.old.resources }
+    {
+        self.reserve_entry(event)?;
+        self.reserve_resource(event, read)
+    }
+
+    // Makes room for the entry, and for the backup that it may complete.
+    fn reserve_entry(&mut self, event: &Event) -> Result<(), AllocError>
+        ensures entry { OnOk result (0 < self.new.room) }
+        ensures backups { OnOk result (BackupsRoom event.now self.new.backups.room) }
+        ensures opening { self.new.opening ≡ self.old.opening }
+        ensures names { self.new.names ≡ self.old.names }
+        ensures first { self.new.first ≡ self.old.first }
+        ensures history { self.new.history ≡ self.old.history }
+        ensures resources { self.new.resources ≡ self.old.resources }
+    {
+        self.history.reserve(1)?;
+        reserve_backup(&mut self.backups, event)
+    }
+
+    // Makes room at the event's resource, if it is of one.
+    fn reserve_resource(&mut self, event: &Event, read: u64) -> Result<(), AllocError>
+        requires known { IsEventOf (length self.old.resources) event.now }
+        ensures resource { OnOk result ((n : ℕ) → n ≤ read → ResourceRoom event.now n self.new) }
+        ensures room { self.new.room ≡ self.old.room }
+        ensures backups { self.new.backups ≡ self.old.backups }
+        ensures opening { self.new.opening ≡ self.old.opening }
+        ensures names { self.new.names ≡ self.old.names }
+        ensures first { self.new.first ≡ self.old.first }
+        ensures history { self.new.history ≡ self.old.history }
+        ensures count { length self.new.resources ≡ length self.old.resources }
+    {
+        match named(event) {
+            Some(res) => self.reserve_of(res, event, read),
+            None => Ok(()),
+        }
+    }
+
+    // Makes room at the event's resource.
+    fn reserve_of(&mut self, res: ResNo, event: &Event, read: u64) -> Result<(), AllocError>
+        requires named { named event.now ≡ Some res }
+        requires known { res < length self.old.resources }
+        ensures resource { OnOk result ((n : ℕ) → n ≤ read → ResourceRoom event.now n self.new) }
+        ensures room { self.new.room ≡ self.old.room }
+        ensures backups { self.new.backups ≡ self.old.backups }
+        ensures opening { self.new.opening ≡ self.old.opening }
+        ensures names { self.new.names ≡ self.old.names }
+        ensures first { self.new.first ≡ self.old.first }
+        ensures history { self.new.history ≡ self.old.history }
+        ensures count { length self.new.resources ≡ length self.old.resources }
+    {
+        self.resources[res.number() as usize].reserve(self.guarded, event, read)
+    }
+
     // Takes an event of the resource.
     fn step_of(
         &mut self,
@@ -68,7 +162,7 @@ impl Core {
         ensures count { length self.new.resources ≡ length self.old.resources }
     {
         let lacks = self.lacks_for(res, &event);
-        let place = next_place(self.history.as_slice());
+        let place = self.next_place();
         let resource = &mut self.resources[res.number() as usize];
         let stepped = resource.step(self.guarded, lacks, self.spent, place, &event, &got);
         let spent = spent_after(stepped.outcome, self.spent);
@@ -85,6 +179,14 @@ impl Core {
             content: content_of(self.alloc, got),
         });
         stepped.outcome
+    }
+
+    // The place of the next entry, from 1.
+    pub(crate) fn next_place(&self) -> u64
+        ensures place { result ≡ length self.now.history + 1 }
+        ensures few { length self.now.history < 2 ^ 63 }
+    {
+        self.history.as_slice().len() as u64 + 1
     }
 
     // Whether the event takes a pair, and the resource has none and gets none.
@@ -188,12 +290,14 @@ fn opens(command: &Command) -> bool
     }
 }
 
-// The place of the next entry, from 1.
-fn next_place(history: &[Entry]) -> u64
-    ensures place { result ≡ length history.now + 1 }
-    ensures few { length history.now < 2 ^ 63 }
+fn reserve_backup(backups: &mut Backups, event: &Event) -> Result<(), AllocError>
+    ensures room { OnOk result (BackupsRoom event.now backups.new.room) }
+    ensures pairs { backups.new.pairs ≡ backups.old.pairs }
 {
-    history.len() as u64 + 1
+    match event {
+        Event::Vault(_) => backups.reserve(),
+        _ => Ok(()),
+    }
 }
 
 // Changes the list of completed backups by the outcome of a stage.

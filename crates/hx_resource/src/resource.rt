@@ -139,7 +139,7 @@ impl Resource {
 
     /// The copy, where it is registered.
     pub fn copy(&self) -> Option<&WorkingCopy>
-        ensures { option_map (λ c. c.now) result ≡ self.now.copy }
+        ensures kept { option_map (λ c. c.now.copy) result ≡ self.now.kept.copy }
     {
         self.copy.as_ref()
     }

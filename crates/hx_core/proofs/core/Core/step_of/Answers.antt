@@ -60,7 +60,7 @@ step-stepped-requires-clause-counts c =
       state = subst (λ (k : ℕ). slice_get inside.resources.items k ≡ Some s) number at_number;
       lacks_is = subst (λ (x : CoreState). c.lacks_for-lacks.result ≡ (takes_pair c.args.event && lacks_pair x.opening (past x.history) c.args.res)) (sym c.self.view_is) c.lacks_for-lacks.ensures;
     } in
-    counts o inside.first.items inside.resources.items inside.backups.pairs inside.history.items inside.spent inside.vault inside.save c.args.event c.args.res s c.lacks_for-lacks.result comes (subst (λ (xs : List Entry). length xs < 9223372036854775808) c.as_slice.ensures.value c.next_place-place.ensures.few)
+    counts o inside.first.items inside.resources.items inside.backups.pairs inside.history.items inside.spent inside.vault inside.save c.args.event c.args.res s c.lacks_for-lacks.result comes (subst (λ (x : CoreState). length x.history < 9223372036854775808) (sym c.self.view_is) c.next_place-place.ensures.few)
 
 pub step-stepped-requires-clause-new : goal.step-stepped-requires-clause-new
 step-stepped-requires-clause-new c =
@@ -77,7 +77,7 @@ step-stepped-requires-clause-new c =
       state = subst (λ (k : ℕ). slice_get inside.resources.items k ≡ Some s) number at_number;
       lacks_is = subst (λ (x : CoreState). c.lacks_for-lacks.result ≡ (takes_pair c.args.event && lacks_pair x.opening (past x.history) c.args.res)) (sym c.self.view_is) c.lacks_for-lacks.ensures;
     } in
-    let place : c.next_place-place.result ≡ length inside.history.items + 1 = c.next_place-place.ensures.place ∙ ap (λ xs. length xs + 1) c.as_slice.ensures.value in
+    let place : c.next_place-place.result ≡ length inside.history.items + 1 = subst (λ (x : CoreState). c.next_place-place.result ≡ length x.history + 1) (sym c.self.view_is) c.next_place-place.ensures.place in
     new_ticket o inside.first.items inside.resources.items inside.backups.pairs inside.history.items inside.spent inside.vault inside.save c.args.event c.args.res s c.lacks_for-lacks.result comes c.next_place-place.result place
 
 pub invariant_of-self : goal.invariant_of-self
@@ -95,7 +95,7 @@ invariant_of-self c =
       state = subst (λ (k : ℕ). slice_get inside.resources.items k ≡ Some s) number at_number;
       lacks_is = subst (λ (x : CoreState). c.lacks_for-lacks.result ≡ (takes_pair c.args.event && lacks_pair x.opening (past x.history) c.args.res)) (sym c.self.view_is) c.lacks_for-lacks.ensures;
     } in
-    let place : c.next_place-place.result ≡ length inside.history.items + 1 = c.next_place-place.ensures.place ∙ ap (λ xs. length xs + 1) c.as_slice.ensures.value in
+    let place : c.next_place-place.result ≡ length inside.history.items + 1 = subst (λ (x : CoreState). c.next_place-place.result ≡ length x.history + 1) (sym c.self.view_is) c.next_place-place.ensures.place in
     let step = c.step-stepped in
     let entry : Entry = record { moment = c.args.moment; faults = c.args.faults; actor = c.args.actor; event = c.args.event; outcome = step.result.outcome; content = c.content_of.result } in
     let is = step.ensures.kept ∙ ap (λ x. kept_after inside.guarded c.next_place-place.result c.args.event step.result.outcome x s.kept) (sym c.content_of.ensures) in
@@ -136,7 +136,7 @@ returns-clause-row c =
       state = subst (λ (k : ℕ). slice_get inside.resources.items k ≡ Some s) number at_number;
       lacks_is = subst (λ (x : CoreState). c.lacks_for-lacks.result ≡ (takes_pair c.args.event && lacks_pair x.opening (past x.history) c.args.res)) (sym c.self.view_is) c.lacks_for-lacks.ensures;
     } in
-    let place : c.next_place-place.result ≡ length inside.history.items + 1 = c.next_place-place.ensures.place ∙ ap (λ xs. length xs + 1) c.as_slice.ensures.value in
+    let place : c.next_place-place.result ≡ length inside.history.items + 1 = subst (λ (x : CoreState). c.next_place-place.result ≡ length x.history + 1) (sym c.self.view_is) c.next_place-place.ensures.place in
     let step = c.step-stepped in
     let entry : Entry = record { moment = c.args.moment; faults = c.args.faults; actor = c.args.actor; event = c.args.event; outcome = step.result.outcome; content = c.content_of.result } in
     let is = step.ensures.kept ∙ ap (λ x. kept_after inside.guarded c.next_place-place.result c.args.event step.result.outcome x s.kept) (sym c.content_of.ensures) in
