@@ -5,3 +5,5 @@ pub mod Keeping
 pub mod Stepping
 pub mod States
 pub mod Reading
+pub mod Opens
+pub mod Starting

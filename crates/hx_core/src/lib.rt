@@ -5,9 +5,12 @@
 #![tactic(auto)]
 
 mod core;
+mod opening;
 mod readers;
 mod state;
 mod step;
+#[cfg(test)]
+mod tests;
 
 pub use crate::core::Core;
 pub use hx_resource::{Asked, BegunBackup, Got, Work};

@@ -39,6 +39,13 @@ impl Core {
         &self.names
     }
 
+    /// How many resources the life has; their numbers are below it.
+    pub fn count(&self) -> usize
+        ensures { result ≡ length self.now.resources }
+    {
+        self.resources.len()
+    }
+
     pub(crate) fn resource(&self, res: ResNo) -> &Resource
         requires { res < length self.now.resources }
         ensures { Fits (restored_at self.now.opening res) self.now.opening.guarded (own res (past self.now.history)) result.now.kept }

@@ -1,0 +1,6 @@
+use Rattle.std.proofs.Common.{◌≡◌, drop}
+use Rattle.hx_rules.specs.Legal.{found_backup}
+use Rattle.hx_core.proofs.opening.found_backup.Given as goal
+
+abbrev pub invariant-loop-pair : goal.invariant-loop-pair
+invariant-loop-pair l = found_backup l.resource l.base ≡ found_backup l.resource (drop l.pair-index l.base)

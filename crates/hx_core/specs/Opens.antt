@@ -1,0 +1,43 @@
+-- What a life begins with: its names, what each resource was restored with, and the list of completed backups.
+use Rattle.std.specs.Prelude.{ℕ, ◌≡◌, List, [], ◌∷◌, ◌++◌, map, Option, Some, None, nat_eq}
+use Rattle.indexmap.specs.IndexMap.{insert_entry}
+use Rattle.hx_events.specs.declared.backup.Backup.{Backup}
+use Rattle.hx_events.specs.declared.backup.PairFound.{PairFound}
+use Rattle.hx_events.specs.declared.backup.PairFound.TheVariants.{Found}
+use Rattle.hx_events.specs.Places.{place_of}
+use Rattle.hx_rules.specs.Legal.{found_backup}
+use Rattle.hx_resource.specs.Kept.{ResourceState, kept_at_first}
+
+abbrev pub named_at : Option ℕ → List ℕ → List (List ℕ) → List (List ℕ)
+named_at None resource names = names ++ resource ∷ []
+named_at (Some c) resource names = names
+
+-- the names with the resource behind, where it isn't among them
+abbrev pub with_name : List ℕ → List (List ℕ) → List (List ℕ)
+with_name resource names = named_at (place_of resource names) resource names
+
+-- the names with the resources of the found backups behind that aren't among them, in the order of their pairs
+abbrev pub with_restored : List (List ℕ) → List PairFound → List (List ℕ)
+with_restored names [] = names
+with_restored names (Found b side ∷ pairs) = with_restored (with_name b.resource names) pairs
+with_restored names (_ ∷ pairs) = with_restored names pairs
+
+-- what each of the names was restored with
+abbrev pub restored_of : List (List ℕ) → List PairFound → List (Option Backup)
+restored_of names pairs = map (λ name. found_backup name pairs) names
+
+abbrev pub with_first : Option ℕ → List (ℕ × ℕ) → List (ℕ × ℕ)
+with_first None was = was
+with_first (Some c) was = insert_entry nat_eq was c 1
+
+-- the resources of the found backups, each with version 1, in the order of their pairs, behind those that are there
+abbrev pub first_of : List (List ℕ) → List PairFound → List (ℕ × ℕ) → List (ℕ × ℕ)
+first_of names [] was = was
+first_of names (Found b side ∷ pairs) was = first_of names pairs (with_first (place_of b.resource names) was)
+first_of names (_ ∷ pairs) was = first_of names pairs was
+
+-- of each resource is kept what its backup, or none, leaves at the opening
+abbrev pub AreFirst : List ResourceState → List (Option Backup) → Type 0
+AreFirst [] [] = Unit {0}
+AreFirst (s ∷ ss) (r ∷ rs) = (s.kept ≡ kept_at_first r) × AreFirst ss rs
+AreFirst _ _ = ⊥
