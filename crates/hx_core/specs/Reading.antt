@@ -96,7 +96,7 @@ room_keeps o first resources pairs h spent vault save i s t core at is = record 
     count = length_set resources i t ∙ core.kept.count;
     fits = λ k u got. ⊎_elim
         (λ a. subst (λ (v : ResourceState). Fits (restored_at o k) o.guarded (own k (past h)) v.kept) (sym a.1)
-            (subst (λ (v : Kept). Fits (restored_at o k) o.guarded (own k (past h)) v) (sym is) (core.kept.fits k s (subst (λ (j : ℕ). slice_get resources j ≡ Some s) (sym a.0) at))))
+        (subst (λ (v : Kept). Fits (restored_at o k) o.guarded (own k (past h)) v) (sym is) (core.kept.fits k s (subst (λ (j : ℕ). slice_get resources j ≡ Some s) (sym a.0) at))))
         (λ b. core.kept.fits k u b.1)
         (slice_get_set resources i k t u got);
     backups = core.kept.backups;

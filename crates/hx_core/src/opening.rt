@@ -92,9 +92,7 @@ fn add_name(alloc: Global, names: &mut Names, resource: &[u8]) -> Result<(), All
     ensures { OnOk result (names.new ≡ with_name resource.now names.old) }
 {
     if names.find(resource).is_none() {
-        names
-            .add(resource.to_vec(alloc)?)
-            .map_err(|_| AllocError)?;
+        names.add(resource.to_vec(alloc)?).map_err(|_| AllocError)?;
     }
     Ok(())
 }

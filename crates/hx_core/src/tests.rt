@@ -2,7 +2,7 @@ ghost use Rattle.hx_core.specs.Cores.{IsEventOf};
 ghost use Rattle.hx_resource.specs.Asks.{FitsAsked, FitsWork};
 ghost use Rattle.std.specs.Prelude.{◌≡◌, true};
 
-use crate::{Asked, Core, CopyState, Got, Work};
+use crate::{Asked, CopyState, Core, Got, Work};
 use hx_etag::Stat;
 use hx_events::{Actor, Bytes, CONTENT_MAX, Command, Event, Names, Outcome, ResNo, Stage};
 use std::alloc::{AllocError, Global};
@@ -117,7 +117,13 @@ fn core_of(alloc: Global, guarded: bool) -> Result<Core, Fail> {
     Ok(Core::new(alloc, names, &[], guarded)?)
 }
 
-fn take(rt: &impl Abort, alloc: Global, core: &mut Core, done: Do, device: Device) -> Result<Outcome, Fail> {
+fn take(
+    rt: &impl Abort,
+    alloc: Global,
+    core: &mut Core,
+    done: Do,
+    device: Device,
+) -> Result<Outcome, Fail> {
     let event = event(alloc, done)?;
     assert!(rt; is_of_life(&event, core.count()));
     core.reserve(&event, CONTENT_MAX)?;
