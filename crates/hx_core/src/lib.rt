@@ -4,7 +4,7 @@
 //! with it.
 #![tactic(auto)]
 
-mod core;
+mod machine;
 mod opening;
 mod readers;
 mod state;
@@ -12,6 +12,6 @@ mod step;
 #[cfg(test)]
 mod tests;
 
-pub use crate::core::Core;
+pub use crate::machine::Core;
 pub use hx_resource::{Asked, BegunBackup, Got, Work};
 pub use state::CopyState;

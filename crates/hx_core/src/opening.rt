@@ -6,7 +6,7 @@ ghost use Rattle.hx_rules.specs.Legal.{found_backup, is_barred, opening_of};
 ghost use Rattle.hx_resource.specs.Kept.{kept_at_first};
 ghost use Rattle.hx_core.specs.Opens.{AreFirst, first_of, restored_of, with_name, with_restored};
 
-use crate::core::Core;
+use crate::machine::Core;
 use hx_backups::Backups;
 use hx_events::{Backup, Bytes, Names, PairFound, ResNo};
 use hx_ghost::{GhostList, Lists};

@@ -15,7 +15,7 @@ ghost use Rattle.hx_seq.specs.Keeps.{Keeps};
 ghost use Rattle.hx_resource_laws.specs.Fits.{Fits, FitsCopy};
 ghost use Rattle.hx_core.specs.Listed.{listed};
 
-use crate::core::Core;
+use crate::machine::Core;
 use crate::state::CopyState;
 use hx_backups::Backups;
 use hx_copy::WorkingCopy;

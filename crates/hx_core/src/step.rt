@@ -11,7 +11,7 @@ ghost use Rattle.hx_resource.specs.Rooms.{got_content};
 ghost use Rattle.hx_core.specs.Listed.{listed_after, res_of};
 ghost use Rattle.hx_core.specs.Cores.{BackupsRoom, IsEventOf, ResourceRoom, StepRoom, asks_at, named, outcome_at, quit_outcome, takes_pair, ListRoom};
 
-use crate::core::Core;
+use crate::machine::Core;
 use hx_backups::Backups;
 use hx_events::{Actor, Bytes, Command, Entry, Event, Outcome, ResNo, Stage};
 use hx_resource::{Asked, Got};

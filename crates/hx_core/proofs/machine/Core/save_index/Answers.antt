@@ -1,0 +1,12 @@
+use Rattle.std.proofs.Common.{◌≡◌, ◌<◌, ℕ, length, subst, is_some}
+use Rattle.hx_rules.specs.Entries.{past}
+use Rattle.hx_rules.specs.Legal.{save_due}
+use Rattle.hx_tracker.specs.Index.{has_number}
+use Rattle.hx_core.specs.Cores.{CoreState}
+use Rattle.hx_core.specs.Reading.{index_says}
+use Rattle.hx_core.proofs.machine.Core.save_index.Goals as goal
+
+pub returns : goal.returns
+returns c =
+    subst (λ (x : CoreState). (k : ℕ) → k < length x.resources → has_number c.self.inside.save k ≡ is_some (save_due x.opening (past x.history) k)) c.self.view_is
+    (index_says (length c.self.inside.resources.items) _ (has_number c.self.inside.save) c.self.invariant.kept.save)
