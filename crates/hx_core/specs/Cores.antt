@@ -1,5 +1,5 @@
 -- A core as plain data, and what it keeps.
-use Rattle.std.specs.Prelude.{ℕ, ◌≡◌, ◌<◌, ◌≤◌, nat_lt, Bool, true, false, ◌&&◌, List, [], length, Option, Some, None, is_some, slice_get}
+use Rattle.std.specs.Prelude.{ℕ, ◌≡◌, ◌<◌, ◌≤◌, nat_lt, Bool, true, false, ◌&&◌, List, length, Option, Some, None, is_some, slice_get}
 use Rattle.hx_events.specs.declared.event.Command.TheVariants.{Open, Create}
 use Rattle.hx_events.specs.declared.event.Event.{Event}
 use Rattle.hx_events.specs.declared.event.Event.TheVariants.{Act, Vault, Flush, Quit}
@@ -8,7 +8,7 @@ use Rattle.hx_events.specs.declared.outcome.Outcome.{Outcome}
 use Rattle.hx_events.specs.declared.outcome.Outcome.TheVariants.{Quit as MayQuit, Vetoed, StageOk}
 use Rattle.hx_events.specs.declared.event.Stage.TheVariants.{Open as OpenGate}
 use Rattle.hx_events.specs.Texts.{resource_of}
-use Rattle.hx_backups.specs.Backups.{BackupsState, version_of}
+use Rattle.hx_backups.specs.Backups.{BackupsState}
 use Rattle.hx_rules.specs.Entries.{own, past}
 use Rattle.hx_rules.specs.Legal.{Opening, restored_at, is_legal, was_spent, vault_due, save_due, lacks_pair, lowest, is_unsafe}
 use Rattle.hx_tracker.specs.Index.{has_number}

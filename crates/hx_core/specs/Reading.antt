@@ -1,5 +1,5 @@
 -- What the readers say follows from what is kept.
-use Rattle.std.specs.Prelude.{ℕ, ◌≡◌, ◌<◌, ◌≤◌, nat_lt, not, Bool, true, ◌&&◌, List, length, if◌then◌else◌, Option, Some, None, is_some, option_map, slice_get, IfSome, OnOk, Result, Ok, Err, refl}
+use Rattle.std.specs.Prelude.{ℕ, ◌≡◌, ◌<◌, ◌≤◌, nat_lt, Bool, true, ◌&&◌, List, Option, Some, None, is_some, option_map, slice_get, IfSome, OnOk, Result, Ok, Err, refl}
 use Rattle.std.proofs.Common.{arith, ap, sym, ◌∙◌, subst, ⊎_elim}
 use Rattle.std.proofs.lemmas.Bool.Decides.{nat_tests}
 use Rattle.hx_events.specs.declared.backup.Backup.{Backup}
@@ -10,18 +10,16 @@ use Rattle.hx_events.specs.declared.life.Entry.{Entry}
 use Rattle.hx_rules.specs.declared.saves.Running.{Running}
 use Rattle.hx_rules.specs.Entries.{Deed, own, past}
 use Rattle.hx_rules.specs.Versions.{version_at, versions, last_version}
-use Rattle.hx_rules.specs.Copies.{registered, dirty}
+use Rattle.hx_rules.specs.Copies.{registered}
 use Rattle.hx_rules.specs.Saves.{running, save_steps}
 use Rattle.hx_rules.specs.Due.{run_version}
 use Rattle.hx_rules.specs.Legal.{Opening, restored_at, vault_due, save_due}
 use Rattle.hx_tracker.specs.Index.{has_number}
 use Rattle.hx_resource.specs.Kept.{Kept, ResourceState, dirty_now}
 use Rattle.hx_resource.specs.Rooms.{HasRoom, copied_by}
-use Rattle.hx_resource_laws.specs.Fits.{IsVersion, Fits, FitsCopy, whole}
+use Rattle.hx_resource_laws.specs.Fits.{IsVersion, Fits}
 use Rattle.hx_resource_laws.specs.CopyFits.{dirty_is}
-use Rattle.hx_core.specs.declared.state.CopyState.{CopyState}
-use Rattle.hx_core.specs.declared.state.CopyState.TheVariants.{NotOpen, Saving, Dirty, Clean}
-use Rattle.hx_core.specs.Cores.{IsCore, KeptOver, Indexes, CoreState, ResourceRoom, named}
+use Rattle.hx_core.specs.Cores.{IsCore, Indexes, named}
 use Rattle.hx_core.specs.Keeping.{slice_get_set, length_set}
 use Rattle.hx_core.specs.States.{state_of, state_by}
 use lib.ListN.{set}

@@ -1,5 +1,5 @@
 -- A core without entries keeps what a core keeps.
-use Rattle.std.specs.Prelude.{ℕ, zero, suc, ◌≡◌, ◌+◌, ◌<◌, ◌≤◌, nat_lt, Bool, true, false, ◌&&◌, List, [], ◌∷◌, ◌++◌, take, drop, map, length, Option, Some, None, is_some, slice_get, slice_index_or, refl}
+use Rattle.std.specs.Prelude.{ℕ, zero, suc, ◌≡◌, ◌+◌, ◌≤◌, nat_lt, Bool, true, false, ◌&&◌, List, [], ◌∷◌, ◌++◌, take, drop, map, length, Option, Some, None, is_some, slice_get, slice_index_or, refl}
 use Rattle.std.proofs.Common.{arith, ap, sym, ◌∙◌, subst, length-append}
 use Rattle.std.proofs.lemmas.List.{length-map}
 use Rattle.hx_events.specs.declared.backup.Backup.{Backup}
@@ -7,13 +7,12 @@ use Rattle.hx_events.specs.declared.backup.PairFound.{PairFound}
 use Rattle.hx_events.specs.declared.backup.PairFound.TheVariants.{Empty, Found, Damaged, Twin}
 use Rattle.hx_events.specs.declared.backup.Side.{Side}
 use Rattle.hx_events.specs.Places.{place_of}
-use Rattle.hx_rules.specs.Legal.{Opening, restored_at, found_backup, vault_due, save_due}
-use Rattle.hx_rules.specs.Due.{VaultWork, SaveWork}
+use Rattle.hx_rules.specs.Legal.{Opening, restored_at, vault_due, save_due}
 use Rattle.hx_tracker.specs.Index.{has_number}
 use Rattle.hx_resource.specs.Kept.{ResourceState, Kept, kept_at_first}
 use Rattle.hx_resource_laws.specs.Fits.{Fits}
 use Rattle.hx_resource_laws.specs.Starts.{fits_at_first, no_vault_due, no_save_due}
-use Rattle.hx_core.specs.Cores.{IsCore, KeptOver, Indexes}
+use Rattle.hx_core.specs.Cores.{IsCore}
 use Rattle.hx_core.specs.Opens.{AreFirst, named_at, with_name, with_restored}
 
 -- ---- the names

@@ -1,15 +1,14 @@
 -- An event of a resource that a core takes: what its resource's step asks, and what the core keeps after it.
-use Rattle.std.specs.Prelude.{ℕ, ◌≡◌, ◌+◌, ◌^◌, ◌<◌, ◌≤◌, Bool, true, ◌&&◌, ◌||◌, List, [], ◌∷◌, ◌++◌, length, Option, Some, None, is_some, slice_get, refl}
+use Rattle.std.specs.Prelude.{ℕ, ◌≡◌, ◌+◌, ◌^◌, ◌<◌, Bool, true, ◌&&◌, ◌||◌, List, [], ◌∷◌, ◌++◌, length, Some, None, is_some, slice_get, refl}
 use Rattle.std.proofs.Common.{arith, ap, sym, ◌∙◌, subst}
 use Rattle.std.proofs.lemmas.List.{length-reverse}
 use Rattle.hx_events.specs.declared.event.Event.{Event}
 use Rattle.hx_events.specs.declared.event.Event.TheVariants.{Act, Vault, Flush, Quit}
 use Rattle.hx_events.specs.declared.life.Entry.{Entry}
-use Rattle.hx_rules.specs.Entries.{Deed, own, past}
-use Rattle.hx_rules.specs.Legal.{Opening, restored_at, is_row, is_spent, was_spent, lacks_pair}
+use Rattle.hx_rules.specs.Entries.{own, past}
+use Rattle.hx_rules.specs.Legal.{Opening, restored_at, is_row, is_spent, lacks_pair}
 use Rattle.hx_rules_laws.specs.SaveLaws.{own_up_to, ticket_is_new}
 use Rattle.hx_seq.specs.Keeps.{stand_in}
-use Rattle.hx_tracker.specs.Index.{has_number}
 use Rattle.hx_resource.specs.declared.asks.Asked.{Asked}
 use Rattle.hx_resource.specs.declared.asks.Got.{Got}
 use Rattle.hx_resource.specs.Kept.{Kept, ResourceState, kept_after}
@@ -19,7 +18,7 @@ use Rattle.hx_resource.specs.Rooms.{IsKnown, IsRead, CanCount}
 use Rattle.hx_resource_laws.specs.Fits.{Fits}
 use Rattle.hx_resource_laws.specs.Counts.{can_count, own_count}
 use Rattle.hx_core.specs.Listed.{res_of, listed_after}
-use Rattle.hx_core.specs.Cores.{IsCore, KeptOver, named, takes_pair, asks_at, outcome_at}
+use Rattle.hx_core.specs.Cores.{IsCore, named, takes_pair, asks_at, outcome_at}
 use Rattle.hx_core.specs.Keeping.{asks_kept_at, outcome_kept_at, core_step, newest_row}
 use lib.ListN.{set}
 

@@ -1,4 +1,4 @@
-use Rattle.std.proofs.Common.{◌≡◌, ◌∷◌, suc, drop, ap, sym, ◌∙◌}
+use Rattle.std.proofs.Common.{◌∷◌, suc, drop, ap, sym, ◌∙◌}
 use Rattle.std.proofs.Math.Seq.{drop-cons}
 use Rattle.hx_core.specs.Starting.{name_fits}
 use Rattle.hx_core.proofs.opening.add_restored.Goals as goal

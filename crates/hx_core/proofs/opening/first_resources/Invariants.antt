@@ -1,4 +1,4 @@
-use Rattle.std.proofs.Common.{◌≡◌, ◌≤◌, map, take, length}
+use Rattle.std.proofs.Common.{◌≡◌, map, take}
 use Rattle.hx_rules.specs.Legal.{found_backup}
 use Rattle.hx_core.specs.Opens.{AreFirst}
 use Rattle.hx_core.proofs.opening.first_resources.Given as goal

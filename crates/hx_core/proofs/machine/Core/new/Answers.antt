@@ -1,4 +1,4 @@
-use Rattle.std.proofs.Common.{◌≡◌, ◌≤◌, ◌++◌, [], ℕ, List, Bool, false, length, arith, ap, sym, subst, ◌∙◌}
+use Rattle.std.proofs.Common.{◌≤◌, ◌++◌, List, false, length, arith, ap, sym, subst, ◌∙◌}
 use Rattle.hx_events.specs.declared.life.Entry.{Entry}
 use Rattle.hx_rules.specs.Legal.{Opening, found_backup}
 use Rattle.hx_core.specs.Cores.{IsCore}

@@ -1,4 +1,4 @@
-use Rattle.std.proofs.Common.{◌≡◌, true, ◌∙◌, ap, sym, is_some}
+use Rattle.std.proofs.Common.{◌∙◌, ap, sym, is_some}
 use Rattle.hx_core.specs.Reading.{if_same, saving_is}
 use Rattle.hx_core.proofs.machine.Core.saving.Goals as goal
 

@@ -1,11 +1,11 @@
-use Rattle.std.proofs.Common.{◌≡◌, ◌<◌, ◌+◌, ℕ, Bool, true, ◌&&◌, List, [], ◌∷◌, ◌++◌, Some, None, refl, ap, sym, ◌∙◌, subst, slice_get, slice_set, length}
+use Rattle.std.proofs.Common.{◌≡◌, ◌<◌, ◌+◌, ℕ, true, ◌&&◌, Some, refl, ap, sym, ◌∙◌, subst, slice_get, slice_set, length}
 use Rattle.std.proofs.lemmas.Option.{slice_get_read}
 use Rattle.hx_events.specs.declared.life.Entry.{Entry}
 use Rattle.hx_rules.specs.Entries.{past}
 use Rattle.hx_rules.specs.Legal.{Opening, lacks_pair, is_row}
 use Rattle.hx_resource.specs.Asks.{FitsAsked}
 use Rattle.hx_resource.specs.Kept.{kept_after}
-use Rattle.hx_resource.specs.Rooms.{HasRoom, IsRead, got_content}
+use Rattle.hx_resource.specs.Rooms.{IsRead, got_content}
 use Rattle.hx_core.specs.Cores.{CoreState, StepRoom, asks_at, outcome_at, takes_pair}
 use Rattle.hx_core.specs.Stepping.{Comes, answer_fits, counts, new_ticket, outcome_is, keeps, may_have}
 use Rattle.hx_core.proofs.machine.Core.step_of.Goals as goal
