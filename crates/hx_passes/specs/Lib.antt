@@ -1,3 +1,4 @@
 pub mod Views
 pub mod Rules
 pub mod Closing
+pub mod Newest

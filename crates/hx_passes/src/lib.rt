@@ -5,10 +5,12 @@
 //! step is proved to keep it. Whoever holds the lock has the clerk, which alone may add to the history.
 #![tactic(auto)]
 
+mod laws;
 mod passes;
 mod rule;
 mod words;
 
+pub use laws::a_history_reads_from_either_end;
 pub use passes::{Clerk, Opened, Pass, Passes};
 pub use rule::{Call, CopyState, Finding, Kind, Known, Note};
 pub use words::Naming;
