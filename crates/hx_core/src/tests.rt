@@ -149,8 +149,20 @@ fn session(
     Ok(())
 }
 
-fn found(mtime: u64, size: u64) -> Option<Stat> {
-    Some(Stat { mtime, size })
+fn stat(mtime: u64, size: u64) -> Stat {
+    Stat { mtime, size }
+}
+
+fn saved(version: u64, mtime: u64, size: u64) -> Outcome {
+    Outcome::Saved(version, Some(stat(mtime, size)))
+}
+
+fn checked(mtime: u64, size: u64) -> Outcome {
+    Outcome::Checked(Some(stat(mtime, size)))
+}
+
+fn modified(mtime: u64, size: u64) -> Outcome {
+    Outcome::Modified(stat(mtime, size))
 }
 
 #[test]
@@ -171,16 +183,8 @@ fn requests_wait_for_the_running_save(rt: HostRuntime) -> Result<(), Fail> {
             (Do::Edit(b"d"), Device::Works, Outcome::Edited(5)),
             (Do::Save(false, false), Device::Works, Outcome::Queued),
             (Do::Flush, Device::Works, Outcome::Checked(None)),
-            (
-                Do::Flush,
-                Device::Stat(2000, 1),
-                Outcome::Saved(2, found(2000, 1)),
-            ),
-            (
-                Do::Flush,
-                Device::Stat(2000, 1),
-                Outcome::Checked(found(2000, 1)),
-            ),
+            (Do::Flush, Device::Stat(2000, 1), saved(2, 2000, 1)),
+            (Do::Flush, Device::Stat(2000, 1), checked(2000, 1)),
         ],
     )?;
     assert!(rt; core.count() == 1);
@@ -191,11 +195,7 @@ fn requests_wait_for_the_running_save(rt: HostRuntime) -> Result<(), Fail> {
         rt.alloc(),
         &mut core,
         &[
-            (
-                Do::Flush,
-                Device::Stat(4000, 4),
-                Outcome::Saved(5, found(4000, 4)),
-            ),
+            (Do::Flush, Device::Stat(4000, 4), saved(5, 4000, 4)),
             (Do::Flush, Device::Works, Outcome::Idle),
         ],
     )?;
@@ -228,11 +228,7 @@ fn an_edit_during_a_save_stays_unsaved(rt: HostRuntime) -> Result<(), Fail> {
             (Do::Save(false, false), Device::Works, Outcome::Started(2)),
             (Do::Flush, Device::Works, Outcome::Checked(None)),
             (Do::Edit(b"b"), Device::Works, Outcome::Edited(3)),
-            (
-                Do::Flush,
-                Device::Stat(5000, 1),
-                Outcome::Saved(2, found(5000, 1)),
-            ),
+            (Do::Flush, Device::Stat(5000, 1), saved(2, 5000, 1)),
             (Do::Quit, Device::Works, Outcome::Vetoed(ResNo::new(0))),
             (
                 Do::Vault,
@@ -304,34 +300,16 @@ fn a_conflict_and_refusals(rt: HostRuntime) -> Result<(), Fail> {
             (
                 Do::Open,
                 Device::Text(5000, b"one"),
-                Outcome::Opened(Stat {
-                    mtime: 5000,
-                    size: 3,
-                }),
+                Outcome::Opened(stat(5000, 3)),
             ),
             (Do::Open, Device::Works, Outcome::AlreadyOpen),
             (Do::Edit(b"!"), Device::Works, Outcome::Edited(2)),
             (Do::Save(false, false), Device::Works, Outcome::Started(2)),
             (Do::Close, Device::Works, Outcome::Saving),
-            (
-                Do::Flush,
-                Device::Stat(9000, 5),
-                Outcome::Modified(Stat {
-                    mtime: 9000,
-                    size: 5,
-                }),
-            ),
+            (Do::Flush, Device::Stat(9000, 5), modified(9000, 5)),
             (Do::Save(false, true), Device::Works, Outcome::Started(2)),
-            (
-                Do::Flush,
-                Device::Stat(9000, 5),
-                Outcome::Checked(found(9000, 5)),
-            ),
-            (
-                Do::Flush,
-                Device::Stat(6000, 4),
-                Outcome::Saved(2, found(6000, 4)),
-            ),
+            (Do::Flush, Device::Stat(9000, 5), checked(9000, 5)),
+            (Do::Flush, Device::Stat(6000, 4), saved(2, 6000, 4)),
             (Do::Undo, Device::Works, Outcome::Undone(3)),
             (Do::Undo, Device::Works, Outcome::NoUndo),
             (Do::Vault, Device::Spent, Outcome::Spent),
@@ -361,20 +339,12 @@ fn a_guarded_write_waits_for_its_backup(rt: HostRuntime) -> Result<(), Fail> {
             ),
             (Do::Vault, Device::Works, Outcome::StageOk(Stage::Body, 2)),
             (Do::Vault, Device::Works, Outcome::StageOk(Stage::Open, 2)),
-            (
-                Do::Flush,
-                Device::Stat(5000, 1),
-                Outcome::Saved(2, found(5000, 1)),
-            ),
+            (Do::Flush, Device::Stat(5000, 1), saved(2, 5000, 1)),
             (Do::Vault, Device::Works, Outcome::StageOk(Stage::Fade, 0)),
             (Do::Vault, Device::Works, Outcome::StageOk(Stage::Drop, 0)),
             (Do::Edit(b"b"), Device::Works, Outcome::Edited(3)),
             (Do::Save(false, false), Device::Works, Outcome::Started(3)),
-            (
-                Do::Flush,
-                Device::Stat(5000, 1),
-                Outcome::Checked(found(5000, 1)),
-            ),
+            (Do::Flush, Device::Stat(5000, 1), checked(5000, 1)),
             (
                 Do::Vault,
                 Device::Fails,
