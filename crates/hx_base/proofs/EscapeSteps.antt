@@ -2,7 +2,6 @@
 use Rattle.std.proofs.Common.{◌≡◌, ◌≤◌, ◌<◌, ℕ, suc, ◌+◌, ◌*◌, ◌/◌, ◌%◌, Bool, true, false, not, ◌&&◌, ◌-◌, length-drop, append_assoc, append-nil, subst, unwrap_or, List, [], ◌∷◌, ◌++◌, length, take, drop, get_or, Option, Some, None, if◌then◌else◌, cond, nat_le, nat_lt, refl, sym, ◌∙◌, ap, arith}
 use Rattle.std.proofs.lemmas.List.{drop_more, get_or-drop, get_or_past, drop-drop, take_all}
 use Rattle.std.proofs.Math.ListN.{drop_of_length-le}
-use Rattle.std.proofs.lemmas.List.Sums.{passes_at_first}
 use Rattle.std.proofs.lemmas.Bool.Decides.{nat_tests}
 use Rattle.std.specs.Prelude.{◌==◌, slice_index}
 use Rattle.std.specs.Char.{is_ascii_graphic, is_ascii_hexdigit, digit_value}
@@ -75,29 +74,22 @@ bad_run : (at : ℕ) (xs : List ℕ) → bad_from (at + run xs) (drop (run xs) x
 bad_run at [] = refl
 bad_run at (x ∷ xs) = bad_by at x xs (is_plain x) refl (bad_run (at + 1) xs)
 
--- what a turn at the place `at` does to a run of n plain bytes
-pub escape_turn : (xs : List ℕ) (at n : ℕ) → n ≡ run (drop at xs) → escaped (drop at xs) ≡ take n (drop at xs) ++ escaped (drop (at + n) xs)
-escape_turn xs at n is =
-    escaped_run (drop at xs) ∙ ap (λ k. take k (drop at xs) ++ escaped (drop k (drop at xs))) (sym is) ∙ ap (λ (l : List ℕ). take n (drop at xs) ++ escaped l) (drop-drop n at xs)
+-- what a turn at the place `at` does to the run of plain bytes up to the place `end`
+pub escape_turn : (xs : List ℕ) (at end : ℕ) → end ≡ at + run (drop at xs) → escaped (drop at xs) ≡ take (end - at) (drop at xs) ++ escaped (drop end xs)
+escape_turn xs at end is =
+    escaped_run (drop at xs) ∙ ap (λ k. take k (drop at xs) ++ escaped (drop k (drop at xs))) (omega (arith, is)) ∙ ap (λ (l : List ℕ). take (end - at) (drop at xs) ++ escaped l) (drop-drop (end - at) at xs ∙ ap (λ k. drop k xs) (omega (arith, is)))
 
-pub unescape_turn : (xs : List ℕ) (at n : ℕ) → n ≡ run (drop at xs) → unescaped (drop at xs) ≡ take n (drop at xs) ++ unescaped (drop (at + n) xs)
-unescape_turn xs at n is =
-    unescaped_run (drop at xs) ∙ ap (λ k. take k (drop at xs) ++ unescaped (drop k (drop at xs))) (sym is) ∙ ap (λ (l : List ℕ). take n (drop at xs) ++ unescaped l) (drop-drop n at xs)
+pub unescape_turn : (xs : List ℕ) (at end : ℕ) → end ≡ at + run (drop at xs) → unescaped (drop at xs) ≡ take (end - at) (drop at xs) ++ unescaped (drop end xs)
+unescape_turn xs at end is =
+    unescaped_run (drop at xs) ∙ ap (λ k. take k (drop at xs) ++ unescaped (drop k (drop at xs))) (omega (arith, is)) ∙ ap (λ (l : List ℕ). take (end - at) (drop at xs) ++ unescaped l) (drop-drop (end - at) at xs ∙ ap (λ k. drop k xs) (omega (arith, is)))
 
-pub bad_turn : (xs : List ℕ) (at n : ℕ) → n ≡ run (drop at xs) → bad_from (at + n) (drop (at + n) xs) ≡ bad_from at (drop at xs)
-bad_turn xs at n is =
-    ap (bad_from (at + n)) (sym (drop-drop n at xs)) ∙ ap (λ k. bad_from (at + k) (drop k (drop at xs))) is ∙ bad_run at (drop at xs)
+pub bad_turn : (xs : List ℕ) (at end : ℕ) → end ≡ at + run (drop at xs) → bad_from end (drop end xs) ≡ bad_from at (drop at xs)
+bad_turn xs at end is =
+    ap (λ k. bad_from k (drop k xs)) is ∙ ap (bad_from (at + run (drop at xs))) (sym (drop-drop (run (drop at xs)) at xs)) ∙ bad_run at (drop at xs)
 
 not_not : (b : Bool) → not b ≡ true → b ≡ false
 not_not true h = absurd cc
 not_not false h = refl
-
--- a run ends at a byte that isn't plain
-pub stops : (xs : List ℕ) (at n : ℕ) → n ≡ run (drop at xs) → at + n < length xs → is_plain (get_or xs (at + n) 0) ≡ false
-stops xs at n is inside =
-    let within : run (drop at xs) < length (drop at xs) = omega (arith, inside, is, length-drop at xs) in
-    ap is_plain (sym (get_or-drop at xs n 0)) ∙ ap (λ k. is_plain (get_or (drop at xs) k 0)) is
-    ∙ not_not (is_plain (get_or (drop at xs) (run (drop at xs)) 0)) (passes_at_first (λ byte. not (is_plain byte)) (drop at xs) 0 within)
 
 -- a byte that isn't plain is written as three
 pub escape_here : (xs : List ℕ) (at : ℕ) → at < length xs → is_plain (get_or xs at 0) ≡ false
@@ -108,6 +100,11 @@ escape_here xs at inside other = ap escaped (drop_more xs at 0 inside) ∙ rw ot
 pub write_more : (done new front rest tail whole : List ℕ) → done ++ rest ≡ whole → rest ≡ front ++ tail → new ≡ done ++ front → new ++ tail ≡ whole
 write_more done new front rest tail whole so_far step more =
     ap (λ (l : List ℕ). l ++ tail) more ∙ append_assoc done front tail ∙ ap (λ (l : List ℕ). done ++ l) (sym step) ∙ so_far
+
+-- three bytes, one after the other
+pub three_pushed : (done first second third : List ℕ) (a b c : ℕ) → first ≡ done ++ a ∷ [] → second ≡ first ++ b ∷ [] → third ≡ second ++ c ∷ [] → third ≡ done ++ a ∷ b ∷ c ∷ []
+three_pushed done first second third a b c is_first is_second is_third =
+    is_third ∙ ap (λ (l : List ℕ). l ++ c ∷ []) (is_second ∙ ap (λ (l : List ℕ). l ++ b ∷ []) is_first ∙ append_assoc done (a ∷ []) (b ∷ [])) ∙ append_assoc done (a ∷ b ∷ []) (c ∷ [])
 
 three_more : (xs : List ℕ) (at : ℕ) → at + 3 ≤ length xs → drop at xs ≡ get_or xs at 0 ∷ get_or xs (at + 1) 0 ∷ get_or xs (at + 2) 0 ∷ drop (at + 3) xs
 three_more xs at long =
@@ -220,9 +217,12 @@ no_escape text at inside other none =
 pub all_written : (done xs : List ℕ) (at : ℕ) → length xs ≤ at → done ++ escaped (drop at xs) ≡ escaped xs → done ≡ escaped xs
 all_written done xs at past is = sym (append-nil done) ∙ ap (λ (l : List ℕ). done ++ escaped l) (sym (drop_of_length-le xs past)) ∙ is
 
--- a run in what is left of a text
-pub run_is : (xs : List ℕ) (at n k : ℕ) → at ≤ length xs → k ≡ length xs - at → n ≡ run (take k (drop at xs)) → n ≡ run (drop at xs)
-run_is xs at n k within whole is = is ∙ ap run (take_all k (drop at xs) (omega (arith, whole, length-drop at xs)))
+-- a plain byte goes on with the run behind it, which is looked for in what is left of the text
+pub run_on : (xs : List ℕ) (at n k : ℕ) → at < length xs → k ≡ length xs - (at + 1) → is_plain (get_or xs at 0) ≡ true → n ≡ run (take k (drop (at + 1) xs)) → at + 1 + n ≡ at + run (drop at xs)
+run_on xs at n k inside whole plain is =
+    let rest : n ≡ run (drop (at + 1) xs) = is ∙ ap run (take_all k (drop (at + 1) xs) (omega (arith, whole, length-drop (at + 1) xs))) in
+    let more : run (drop at xs) ≡ suc (run (drop (at + 1) xs)) = ap run (drop_more xs at 0 inside) ∙ run_more (get_or xs at 0) (drop (at + 1) xs) plain in
+    omega (arith, rest, more)
 
 pub front_is : (xs : List ℕ) (at k : ℕ) (found : Option ℕ) → at ≤ length xs → k ≡ length xs - at → found ≡ escape_in (take k (drop at xs)) → found ≡ escape_in (drop at xs)
 front_is xs at k found within whole is = is ∙ ap escape_in (take_all k (drop at xs) (omega (arith, whole, length-drop at xs)))

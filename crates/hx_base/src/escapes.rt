@@ -1,4 +1,4 @@
-ghost use Rattle.std.specs.Prelude.{not, ◌≡◌, ◌<◌, ◌≤◌, ◌+◌, ◌*◌, ℕ, true, IsTrue, IfOk, OnOk, length};
+ghost use Rattle.std.specs.Prelude.{not, ◌≡◌, ◌<◌, ◌≤◌, ℕ, true, IsTrue, IfOk, OnOk, length};
 ghost use Rattle.std.specs.Char.{is_ascii_hexdigit, digit_value};
 ghost use Rattle.std.specs.Fmt.{digit_glyph};
 ghost use Rattle.std.specs.List.{position_or_len};
@@ -63,18 +63,6 @@ fn plain_run(bytes: &[u8]) -> usize
         .unwrap_or(bytes.len())
 }
 
-/// How many of the bytes are written as three.
-fn escapes_in(bytes: &[u8]) -> usize
-    ensures value { length (escaped bytes.now) ≡ length bytes.now + 2 * result }
-    ensures within { result ≤ length bytes.now }
-{
-    let mut count = 0;
-    for byte in bytes {
-        count += usize::from(!is_plain_byte(*byte));
-    }
-    count
-}
-
 /// The bytes as one word of printable text: each byte from 0x21 to 0x7E other than `%` stays, and each other byte
 /// becomes `%` and two upper case hexadecimal digits.
 pub fn escape(alloc: Global, bytes: &[u8]) -> Result<Vec<u8>, AllocError>
@@ -84,18 +72,18 @@ pub fn escape(alloc: Global, bytes: &[u8]) -> Result<Vec<u8>, AllocError>
     ensures good { IfOk result (λ text. bad_place text.items ≡ None) }
     ensures read_back { IfOk result (λ text. unescaped text.items ≡ bytes.now) }
 {
-    let length = bytes
-        .len()
-        .saturating_add(escapes_in(bytes).saturating_mul(2));
-    let mut text = Vec::with_capacity(alloc, length)?;
+    let mut text = Vec::with_capacity(alloc, bytes.len())?;
     let mut at = 0;
     while at < bytes.len() {
-        let end = at + plain_run(&bytes[at..]);
-        text.extend_from_slice(&bytes[at..end])?;
-        at = end;
-        if at < bytes.len() {
-            let byte = bytes[at];
-            text.extend_from_slice(&[b'%', hex_digit(byte / 16), hex_digit(byte % 16)])?;
+        let byte = bytes[at];
+        if is_plain_byte(byte) {
+            let end = at + 1 + plain_run(&bytes[at + 1..]);
+            text.extend_from_slice(&bytes[at..end])?;
+            at = end;
+        } else {
+            text.push(b'%')?;
+            text.push(hex_digit(byte / 16))?;
+            text.push(hex_digit(byte % 16))?;
             at += 1;
         }
     }
@@ -143,10 +131,11 @@ pub fn unescape(alloc: Global, text: &[u8]) -> Result<Vec<u8>, EscapeError>
     let mut bytes = Vec::with_capacity(alloc, text.len())?;
     let mut at = 0;
     while at < text.len() {
-        let end = at + plain_run(&text[at..]);
-        bytes.extend_from_slice(&text[at..end])?;
-        at = end;
-        if at < text.len() {
+        if is_plain_byte(text[at]) {
+            let end = at + 1 + plain_run(&text[at + 1..]);
+            bytes.extend_from_slice(&text[at..end])?;
+            at = end;
+        } else {
             let Some(byte) = escape_at_front(&text[at..]) else {
                 return Err(EscapeError::BadEscape(at));
             };

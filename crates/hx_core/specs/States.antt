@@ -4,8 +4,8 @@ use Rattle.hx_events.specs.declared.backup.Backup.{Backup}
 use Rattle.hx_rules.specs.Entries.{Deed}
 use Rattle.hx_rules.specs.Copies.{registered, dirty}
 use Rattle.hx_rules.specs.Saves.{running, save_steps}
-use Rattle.hx_core.specs.declared.state.CopyState.{CopyState}
-use Rattle.hx_core.specs.declared.state.CopyState.TheVariants.{NotOpen, Saving, Dirty, Clean}
+use Rattle.hx_events.specs.declared.copies.CopyState.{CopyState}
+use Rattle.hx_events.specs.declared.copies.CopyState.TheVariants.{NotOpen, Saving, Dirty, Clean}
 
 abbrev pub state_by : Bool → Bool → Bool → CopyState
 state_by is_open runs is_dirty = if not is_open then NotOpen else if runs then Saving else if is_dirty then Dirty else Clean

@@ -7,11 +7,9 @@
 mod machine;
 mod opening;
 mod readers;
-mod state;
 mod step;
 #[cfg(test)]
 mod tests;
 
 pub use crate::machine::Core;
 pub use hx_resource::{Asked, BegunBackup, Got, Work};
-pub use state::CopyState;

@@ -16,10 +16,9 @@ ghost use Rattle.hx_resource_laws.specs.Fits.{Fits, FitsCopy};
 ghost use Rattle.hx_core.specs.Listed.{listed};
 
 use crate::machine::Core;
-use crate::state::CopyState;
 use hx_backups::Backups;
 use hx_copy::WorkingCopy;
-use hx_events::{Entry, Names, ResNo};
+use hx_events::{CopyState, Entry, Names, ResNo};
 use hx_resource::{BegunBackup, Resource};
 use hx_seq::Sequencer;
 use hx_tracker::DueIndex;

@@ -5,9 +5,11 @@ ghost use Rattle.hx_events.specs.declared.backup.TheConstants.{CONTENT_MAX};
 ghost use Rattle.std.specs.Prelude.{◌≡◌, ◌≤◌, true, length, IfOk};
 
 use crate::step::named;
-use crate::{Asked, CopyState, Core, Got, Work};
+use crate::{Asked, Core, Got, Work};
 use hx_etag::Stat;
-use hx_events::{Actor, Bytes, CONTENT_MAX, Command, Event, Names, Outcome, ResNo, Stage};
+use hx_events::{
+    Actor, Bytes, CONTENT_MAX, Command, CopyState, Event, Names, Outcome, ResNo, Stage,
+};
 use hx_seq::SaveAnswer;
 use std::alloc::{AllocError, Global};
 use std::process::Abort;

@@ -3,6 +3,7 @@
 
 mod backup;
 mod bytes;
+mod copies;
 mod event;
 mod items;
 mod laws;
@@ -17,6 +18,7 @@ mod texts;
 
 pub use backup::{Backup, CONTENT_MAX, PairFound, Side, SlotForm};
 pub use bytes::Bytes;
+pub use copies::{CopyFact, CopyState};
 pub use event::{Actor, Command, Event, Stage};
 pub use items::Items;
 pub use laws::lines_of_two_events_differ;

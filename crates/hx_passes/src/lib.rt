@@ -12,7 +12,7 @@ mod words;
 
 pub use laws::a_history_reads_from_either_end;
 pub use passes::{Clerk, Opened, Pass, Passes};
-pub use rule::{Call, CopyState, Finding, Kind, Known, Note};
+pub use rule::{Call, Finding, Kind, Known, Note};
 pub use words::Naming;
 
 #[cfg(test)]

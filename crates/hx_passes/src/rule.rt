@@ -1,7 +1,7 @@
 //! The rule of the two words, and the kinds of step.
 
 use atomic_table::{Join, Play, Split, TableRule};
-use hx_events::{Actor, Entry, ResNo};
+use hx_events::{Actor, CopyState, Entry, ResNo};
 use hx_ghost::GhostList;
 use std::collections::LinkedList;
 use std::marker::{Brand, PhantomData};
@@ -11,15 +11,6 @@ use std::marker::{Brand, PhantomData};
 pub enum Kind {
     Vault,
     Save,
-}
-
-/// How a working copy stands, as a watcher asks it: the first of these that holds.
-#[derive(Clone, Copy, Debug, PartialEq, Eq)]
-pub enum CopyState {
-    NotOpen,
-    Saving,
-    Dirty,
-    Clean,
 }
 
 /// What was found of the history under the lock, without an entry.
