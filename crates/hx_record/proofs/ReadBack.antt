@@ -112,8 +112,18 @@ record_reads form resource meta content base named printable few is_meta short =
     ∙ opened form ((resource ++ 32 ∷ meta) ++ 10 ∷ content)
     ∙ split_reads form 10000 resource meta content base (lit≤ tt) named printable few is_meta short
 
--- where the bytes are known, what they read as is known of a result
-pub ok_reads : {X E : Type 0} (items : X → List ℕ) (form : SlotForm) (backup : Backup) (whole : List ℕ) (made : Result X E)
-    → record_in form whole ≡ Ok backup → IfOk made (λ x. items x ≡ whole) → IfOk made (λ x. record_in form (items x) ≡ Ok backup)
-ok_reads items form backup whole (Ok x) reads is_whole = ap (record_in form) is_whole ∙ reads
-ok_reads items form backup whole (Err e) reads is_whole = tt
+-- the same of the first line with a content behind it
+pub line_reads_back : (form : SlotForm) (resource meta content : List ℕ) (base : Option Stat) → is_resource resource ≡ true → All IsPrintable meta → length meta ≤ 200
+    → meta_in meta ≡ Some (record { base = base; type_id = [] }) → length content ≤ content_limit form
+    → record_in form ((resource ++ 32 ∷ (meta ++ 10 ∷ [])) ++ content) ≡ Ok (record { resource = resource; base = base; content = content })
+line_reads_back form resource meta content base named printable few is_meta short =
+    ap (record_in form)
+    (append_assoc resource (32 ∷ (meta ++ 10 ∷ [])) content
+    ∙ ap (λ (l : List ℕ). resource ++ 32 ∷ l) (append_assoc meta (10 ∷ []) content))
+    ∙ record_reads form resource meta content base named printable few is_meta short
+
+-- where the bytes are known, what they read as with a content behind them is known of a result
+pub ok_reads : {X E : Type 0} (items : X → List ℕ) (form : SlotForm) (content : List ℕ) (backup : Backup) (whole : List ℕ) (made : Result X E)
+    → record_in form (whole ++ content) ≡ Ok backup → IfOk made (λ x. items x ≡ whole) → IfOk made (λ x. record_in form (items x ++ content) ≡ Ok backup)
+ok_reads items form content backup whole (Ok x) reads is_whole = ap (λ (l : List ℕ). record_in form (l ++ content)) is_whole ∙ reads
+ok_reads items form content backup whole (Err e) reads is_whole = tt

@@ -3,6 +3,7 @@
 -- limits and the two slot forms are this project's own.
 use Rattle.std.specs.Prelude.{ℕ, ◌+◌, Bool, true, ◌==◌, nat_le, if◌then◌else◌, List, [], ◌∷◌, ◌++◌, length, take, drop, Option, Some, None, Result, Ok, Err}
 use Rattle.std.specs.List.{position}
+use Rattle.hx_etag.specs.declared.stat.Stat.{Stat}
 use Rattle.hx_events.specs.declared.backup.Backup.{Backup}
 use Rattle.hx_events.specs.declared.backup.SlotForm.{SlotForm}
 use Rattle.hx_events.specs.declared.backup.SlotForm.TheVariants.{One, Two}
@@ -54,7 +55,10 @@ split_read form bytes (Some end) = line_read form (take end bytes) (place_in 32 
 unfoldable pub record_in : SlotForm → List ℕ → Result Backup RecordError
 record_in form bytes = split_read form bytes (place_in 10 (take 10000 bytes))
 
+-- the first line of a backup: the resource, one blank, the meta object and a line feed
+abbrev pub preamble_text : List ℕ → Option Stat → List ℕ
+preamble_text resource base = resource ++ 32 ∷ (meta_text (record { base = base; type_id = [] }) ++ 10 ∷ [])
+
 -- the bytes of a backup
 abbrev pub encoded : Backup → List ℕ
-encoded backup =
-    backup.resource ++ 32 ∷ (meta_text (record { base = backup.base; type_id = [] }) ++ 10 ∷ backup.content)
+encoded backup = preamble_text backup.resource backup.base ++ backup.content

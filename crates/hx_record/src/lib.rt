@@ -10,4 +10,4 @@ mod writing;
 
 pub use error::RecordError;
 pub use reading::decode;
-pub use writing::encode;
+pub use writing::{encode, preamble};

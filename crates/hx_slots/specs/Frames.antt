@@ -56,7 +56,10 @@ shown_in bytes = if slice_index bytes 0 == 1 then framed bytes else None
 abbrev pub frame_at : Shown → List ℕ → Frame
 frame_at s rest = record { form = s.form; stamp = s.stamp; body = take (s.end - s.start) (drop (s.start - 1) rest) }
 
--- The bytes of a frame in form Two: the stamp, the mark, the length and the body.
+-- What a frame in form Two has before a body of this size: the stamp, the mark and the size.
+abbrev pub frame_head : ℕ → ℕ → List ℕ
+frame_head stamp size = to_be_bytes w64 stamp ++ (to_be_bytes w32 0xffff_ffff ++ to_be_bytes w32 size)
+
+-- The bytes of a frame in form Two.
 abbrev pub frame_bytes : ℕ → List ℕ → List ℕ
-frame_bytes stamp body =
-    to_be_bytes w64 stamp ++ (to_be_bytes w32 0xffff_ffff ++ (to_be_bytes w32 (length body) ++ body))
+frame_bytes stamp body = frame_head stamp (length body) ++ body

@@ -1,6 +1,5 @@
 ghost use Rattle.std.specs.Prelude.{◌≡◌, ◌≤◌, ◌+◌, ◌++◌, ◌==◌, IsTrue, List, ℕ, MatchOption, IfSome, IfOk, OnOk, length, slice_index, slice_range};
-ghost use Rattle.std.specs.Int.{w32, w64, to_be_bytes};
-ghost use Rattle.hx_slots.specs.Frames.{body_limit, body_place, frame_at, frame_by, frame_in, shown_in, frame_bytes};
+ghost use Rattle.hx_slots.specs.Frames.{body_limit, body_place, frame_at, frame_by, frame_in, shown_in, frame_bytes, frame_head};
 ghost use Rattle.hx_events.specs.declared.backup.SlotForm.TheVariants.{Two};
 
 use crate::Shown;
@@ -83,8 +82,9 @@ pub fn shown(bytes: &[u8]) -> Option<Shown>
     }
 }
 
-fn put_header(out: &mut Vec<u8>, stamp: u64, size: u32) -> Result<(), AllocError>
-    ensures { OnOk result (out.new.items ≡ out.old.items ++ (to_be_bytes w64 stamp ++ (to_be_bytes w32 0xffff_ffff ++ to_be_bytes w32 size))) }
+/// Appends what a frame of form Two has before a body of this size. Where memory runs out a part of it may stand there.
+pub fn put_frame_head(out: &mut Vec<u8>, stamp: u64, size: u32) -> Result<(), AllocError>
+    ensures { OnOk result (out.new.items ≡ out.old.items ++ frame_head stamp size) }
 {
     put_u64(out, stamp)?;
     put_u32(out, MARK)?;
@@ -100,7 +100,7 @@ pub fn frame(alloc: Global, stamp: u64, body: &[u8]) -> Result<Vec<u8>, AllocErr
     ensures shows { IfOk result (λ frame. (tail : List ℕ) → frame_in (frame.items ++ tail) ≡ Some (record { form = Two; stamp = stamp; body = body.now })) }
 {
     let mut frame = Vec::with_capacity(alloc, body.len() + 16)?;
-    put_header(&mut frame, stamp, body.len() as u32)?;
+    put_frame_head(&mut frame, stamp, body.len() as u32)?;
     frame.extend_from_slice(body)?;
     Ok(frame)
 }

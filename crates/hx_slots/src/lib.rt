@@ -13,7 +13,7 @@ mod slot;
 mod tests;
 
 pub use calls::{close_gate, open_gate, put_block};
-pub use frames::{frame, shown};
+pub use frames::{frame, put_frame_head, shown};
 pub use laws::{
     an_empty_file_frames_nothing, what_a_slot_file_shows_stands_within_its_first_bytes,
 };
