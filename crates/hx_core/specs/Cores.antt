@@ -1,5 +1,5 @@
 -- A core as plain data, and what it keeps.
-use Rattle.std.specs.Prelude.{ℕ, ◌≡◌, ◌<◌, ◌≤◌, nat_lt, Bool, true, false, ◌&&◌, List, length, Option, Some, None, is_some, slice_get}
+use Rattle.std.specs.Prelude.{ℕ, ◌≡◌, ◌<◌, ◌≤◌, nat_lt, Bool, true, false, ◌&&◌, List, [], length, Option, Some, None, is_some, slice_get}
 use Rattle.hx_events.specs.declared.event.Command.TheVariants.{Open, Create}
 use Rattle.hx_events.specs.declared.event.Event.{Event}
 use Rattle.hx_events.specs.declared.event.Event.TheVariants.{Act, Vault, Flush, Quit}
@@ -19,7 +19,7 @@ use Rattle.hx_resource.specs.Rooms.{HasRoom}
 use Rattle.hx_resource.specs.Kept.{ResourceState}
 use Rattle.hx_resource_laws.specs.Fits.{Fits}
 use Rattle.hx_resource_laws.specs.AskFits.{asks_of, outcome_of}
-use Rattle.hx_core.specs.Listed.{listed}
+use Rattle.hx_core.specs.Listed.{listed, ListsDone}
 
 -- the resource that the event is of, if it is of one
 abbrev pub named : Event → Option ℕ
@@ -88,6 +88,8 @@ pub record KeptOver (o : Opening) (first : List (ℕ × ℕ)) (resources : List 
 -- What the core's type keeps.
 pub record IsCore (o : Opening) (first : List (ℕ × ℕ)) (resources : List ResourceState) (pairs : List (ℕ × ℕ)) (history : List Entry) (spent_now : Bool) (vault_set save_set : List Bool) : Type 0 where
   pub kept : KeptOver o first resources pairs (past history) spent_now (has_number vault_set) (has_number save_set)
+  -- the list of completed backups begins with those that the resources were restored with
+  pub starts : ListsDone o [] first
   pub few : length resources ≤ 256
   pub barred : o.barred ≤ 64
   pub vault : length vault_set ≡ 256

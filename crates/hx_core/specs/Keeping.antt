@@ -30,6 +30,7 @@ use Rattle.hx_resource.specs.declared.asks.Got.{Got}
 use Rattle.hx_resource.specs.Asks.{asks_kept, outcome_kept}
 use Rattle.hx_resource_laws.specs.AskFits.{asks_of, given_of, outcome_of, asks_same, outcome_same}
 use Rattle.hx_core.specs.Listed.{res_of, listed, listed_after}
+use Rattle.hx_core.specs.ListedDone.{unlisted}
 use Rattle.hx_core.specs.Cores.{IsCore, KeptOver, Indexes, named, takes_pair, asks_at, outcome_at}
 use lib.ListN.{set}
 
@@ -261,6 +262,7 @@ core_step o first resources pairs h spent vault save e i lacks s t named known l
           (subst (λ (x : List Entry). KeptOver o first resources2 pairs2 (past x) (spent || is_spent e.outcome) (has_number (set vault i (is_some (vault_due_kept o.guarded t.kept)))) (has_number (set save i (is_some (save_due_kept o.guarded t.kept))))) (sym eh)
           (subst (λ (x : List (ℕ × ℕ)). KeptOver o first resources2 x (past (h ++ e ∷ [])) (spent || is_spent e.outcome) (has_number (set vault i (is_some (vault_due_kept o.guarded t.kept)))) (has_number (set save i (is_some (save_due_kept o.guarded t.kept))))) (sym to_pairs)
           (subst (λ (x : List ResourceState). KeptOver o first x (listed_after e.outcome (res_of e.event) pairs) (past (h ++ e ∷ [])) (spent || is_spent e.outcome) (has_number (set vault i (is_some (vault_due_kept o.guarded t.kept)))) (has_number (set save i (is_some (save_due_kept o.guarded t.kept))))) (sym er) kept)))));
+      starts = core.starts;
       few = subst (λ (n : ℕ). n ≤ 256) (sym (ap length er ∙ length_set resources i t)) core.few;
       barred = core.barred;
       vault = ap length evs ∙ (length_set vault i v ∙ core.vault);
@@ -287,13 +289,14 @@ quit_step o first resources pairs h h2 spent vault save e is core row grown =
       legal = ap (λ b. b && is_legal o es) row2 ∙ kept.legal;
       count = kept.count;
       fits = λ k s got. subst (λ (ds : List Deed). Fits (restored_at o k) o.guarded ds s.kept) (sym (same k)) (kept.fits k s got);
-      backups = kept.backups ∙ unlisted (lowest o (is_unsafe o es)) e.outcome (res_of e.event) (listed first es) row;
+      backups = kept.backups ∙ sym (unlisted (lowest o (is_unsafe o es)) e.outcome (res_of e.event) (listed first es) row);
       spent = kept.spent ∙ ap (λ b. b || was_spent es) (sym (not_spent (lowest o (is_unsafe o es)) e.outcome row));
       vault = λ k. kept.vault k ∙ ap (λ ds. nat_lt k (length resources) && is_some (due_vault (restored_at o k) o.guarded ds)) (sym (same k));
       save = λ k. kept.save k ∙ ap (λ ds. nat_lt k (length resources) && is_some (due_save (restored_at o k) o.guarded ds)) (sym (same k));
     } in
     record {
       kept = subst (λ (x : List Entry). KeptOver o first resources pairs (past x) spent (has_number vault) (has_number save)) (sym grown) (subst (λ (x : List Entry). KeptOver o first resources pairs x spent (has_number vault) (has_number save)) (sym (newest_first h e)) now);
+      starts = core.starts;
       few = core.few;
       barred = core.barred;
       vault = core.vault;
@@ -305,12 +308,6 @@ quit_step o first resources pairs h h2 spent vault save e is core row grown =
     not_spent unsafe (Vetoed c) h = refl
     not_spent unsafe Spent h = absurd cc
     not_spent unsafe _ h = refl
-
-    unlisted : (unsafe : Option ℕ) (outcome : Outcome) (c : ℕ) (was : List (ℕ × ℕ)) → quit_row unsafe outcome ≡ true → was ≡ listed_after outcome c was
-    unlisted unsafe MayQuit c was h = refl
-    unlisted unsafe (Vetoed d) c was h = refl
-    unlisted unsafe (StageOk stage v) c was h = absurd cc
-    unlisted unsafe _ c was h = refl
 
 -- the newest entry's outcome is one that its event may have
 pub newest_row : (o : Opening) (first : List (ℕ × ℕ)) (resources : List ResourceState) (pairs : List (ℕ × ℕ)) (h : List Entry) (e : Entry) (spent : Bool) (vault save : List Bool) → IsCore o first resources pairs (h ++ e ∷ []) spent vault save → is_row o (past h) e.event e.outcome ≡ true

@@ -1,9 +1,11 @@
 pub mod Listed
+pub mod Registered
 pub mod Cores
+pub mod Opens
+pub mod ListedDone
 pub mod Lowest
 pub mod Keeping
 pub mod Stepping
 pub mod States
 pub mod Reading
-pub mod Opens
 pub mod Starting

@@ -1,5 +1,5 @@
 -- What a life begins with: its names, what each resource was restored with, and the list of completed backups.
-use Rattle.std.specs.Prelude.{ℕ, ◌≡◌, List, [], ◌∷◌, ◌++◌, map, Option, Some, None, nat_eq}
+use Rattle.std.specs.Prelude.{ℕ, ◌≡◌, List, [], ◌∷◌, ◌++◌, map, Option, Some, None, nat_eq, slice_get}
 use Rattle.indexmap.specs.IndexMap.{insert_entry}
 use Rattle.hx_events.specs.declared.backup.Backup.{Backup}
 use Rattle.hx_events.specs.declared.backup.PairFound.{PairFound}
@@ -41,3 +41,7 @@ abbrev pub AreFirst : List ResourceState → List (Option Backup) → Type 0
 AreFirst [] [] = Unit {0}
 AreFirst (s ∷ ss) (r ∷ rs) = (s.kept ≡ kept_at_first r) × AreFirst ss rs
 AreFirst _ _ = ⊥
+
+-- each of the names is found at its own number
+abbrev pub ArePlaced : List (List ℕ) → Type 0
+ArePlaced names = (k : ℕ) (name : List ℕ) → slice_get names k ≡ Some name → place_of name names ≡ Some k

@@ -1,8 +1,9 @@
 -- What the readers say follows from what is kept.
-use Rattle.std.specs.Prelude.{ℕ, ◌≡◌, ◌<◌, ◌≤◌, nat_lt, Bool, true, ◌&&◌, List, Option, Some, None, is_some, option_map, slice_get, IfSome, OnOk, Result, Ok, Err, refl}
-use Rattle.std.proofs.Common.{arith, ap, sym, ◌∙◌, subst, ⊎_elim}
+use Rattle.std.specs.Prelude.{ℕ, suc, ◌≡◌, ◌+◌, ◌-◌, ◌<◌, ◌≤◌, nat_lt, Bool, true, false, ◌&&◌, List, [], ◌∷◌, ◌++◌, Option, Some, None, is_some, option_map, slice_get, IfSome, OnOk, Result, Ok, Err, refl}
+use Rattle.std.proofs.Common.{arith, ap, sym, ◌∙◌, subst, cond, append_assoc, ⊎_elim}
 use Rattle.std.proofs.lemmas.Bool.Decides.{nat_tests}
 use Rattle.hx_events.specs.declared.backup.Backup.{Backup}
+use Rattle.hx_events.specs.declared.copies.CopyFact.{CopyFact}
 use Rattle.hx_events.specs.declared.event.Command.TheVariants.{Open, Revert}
 use Rattle.hx_events.specs.declared.event.Event.{Event}
 use Rattle.hx_events.specs.declared.event.Event.TheVariants.{Act, Vault, Flush, Quit}
@@ -16,9 +17,12 @@ use Rattle.hx_rules.specs.Due.{run_version}
 use Rattle.hx_rules.specs.Legal.{Opening, restored_at, vault_due, save_due}
 use Rattle.hx_tracker.specs.Index.{has_number}
 use Rattle.hx_resource.specs.Kept.{Kept, ResourceState, dirty_now}
+use Rattle.hx_resource.specs.Rows.{is_backed}
 use Rattle.hx_resource.specs.Rooms.{HasRoom, copied_by}
 use Rattle.hx_resource_laws.specs.Fits.{IsVersion, Fits}
 use Rattle.hx_resource_laws.specs.CopyFits.{dirty_is}
+use Rattle.hx_resource_laws.specs.RowFits.{facts_same}
+use Rattle.hx_core.specs.Registered.{registered_at, fact_at, copies_from}
 use Rattle.hx_core.specs.Cores.{IsCore, Indexes, named}
 use Rattle.hx_core.specs.Keeping.{slice_get_set, length_set}
 use Rattle.hx_core.specs.States.{state_of, state_by}
@@ -102,8 +106,34 @@ room_keeps o first resources pairs h spent vault save i s t core at is = record 
     vault = subst (λ (n : ℕ). Indexes n (λ k. is_some (vault_due o (past h) k)) (has_number vault)) (sym (length_set resources i t)) core.kept.vault;
     save = subst (λ (n : ℕ). Indexes n (λ k. is_some (save_due o (past h) k)) (has_number save)) (sym (length_set resources i t)) core.kept.save;
   };
+  starts = core.starts;
   few = subst (λ (n : ℕ). n ≤ 256) (sym (length_set resources i t)) core.few;
   barred = core.barred;
   vault = core.vault;
   save = core.save;
 }
+
+-- ---- the registered copies
+abbrev fact_by : ℕ → Bool → Bool → CopyFact
+fact_by c is_dirty is_backed_up = record { res = c; dirty = is_dirty; backed = is_backed_up }
+
+pub fact_is : (o : Opening) (es : List Entry) (c : ℕ) (s : Kept) → Fits (restored_at o c) o.guarded (own c es) s → fact_by c (dirty_now s.copy) (is_backed s.last s.done) ≡ fact_at o es c
+fact_is o es c s fits = ap (λ f. fact_by c f.dirty f.backed) (facts_same (restored_at o c) o.guarded (own c es) s fits)
+
+pub copies_more : (o : Opening) (es : List Entry) (i n : ℕ) → i < n → registered_at o es i ≡ true → copies_from o es i (n - i) ≡ fact_at o es i ∷ copies_from o es (i + 1) (n - (i + 1))
+copies_more o es i n less is =
+    let more : n - i ≡ suc (n - (i + 1)) = omega (arith, less) in
+    ap (copies_from o es i) more ∙ ap (λ b. cond b (fact_at o es i ∷ copies_from o es (i + 1) (n - (i + 1))) (copies_from o es (i + 1) (n - (i + 1)))) is
+
+pub copies_same : (o : Opening) (es : List Entry) (i n : ℕ) → i < n → registered_at o es i ≡ false → copies_from o es i (n - i) ≡ copies_from o es (i + 1) (n - (i + 1))
+copies_same o es i n less is =
+    let more : n - i ≡ suc (n - (i + 1)) = omega (arith, less) in
+    ap (copies_from o es i) more ∙ ap (λ b. cond b (fact_at o es i ∷ copies_from o es (i + 1) (n - (i + 1))) (copies_from o es (i + 1) (n - (i + 1)))) is
+
+pub copies_none : (o : Opening) (es : List Entry) (i n : ℕ) → n ≤ i → copies_from o es i (n - i) ≡ []
+copies_none o es i n le =
+    let none : n - i ≡ 0 = omega (arith, le) in
+    ap (copies_from o es i) none
+
+pub copies_push : (old grown : List CopyFact) (fact : CopyFact) (all here rest : List CopyFact) → all ≡ old ++ here → here ≡ fact ∷ rest → grown ≡ old ++ fact ∷ [] → all ≡ grown ++ rest
+copies_push old grown fact all here rest is more pushed = is ∙ (ap (λ xs. old ++ xs) more ∙ (sym (append_assoc old (fact ∷ []) rest) ∙ ap (λ xs. xs ++ rest) (sym pushed)))

@@ -12,6 +12,7 @@ use Rattle.hx_tracker.specs.Index.{has_number}
 use Rattle.hx_resource.specs.Kept.{ResourceState, Kept, kept_at_first}
 use Rattle.hx_resource_laws.specs.Fits.{Fits}
 use Rattle.hx_resource_laws.specs.Starts.{fits_at_first, no_vault_due, no_save_due}
+use Rattle.hx_core.specs.Listed.{ListsDone}
 use Rattle.hx_core.specs.Cores.{IsCore}
 use Rattle.hx_core.specs.Opens.{AreFirst, named_at, with_name, with_restored}
 
@@ -66,10 +67,10 @@ none_due true x is = ap is_some (sym is)
 none_due false x is = refl
 
 pub core_at_first : (o : Opening) (first : List (ℕ × ℕ)) (resources : List ResourceState) (pairs : List (ℕ × ℕ)) (vault save : List Bool)
-    → AreFirst resources o.restored → pairs ≡ first → length resources ≤ 256 → o.barred ≤ 64
+    → AreFirst resources o.restored → pairs ≡ first → ListsDone o [] first → length resources ≤ 256 → o.barred ≤ 64
     → ((k : ℕ) → has_number vault k ≡ false) → ((k : ℕ) → has_number save k ≡ false) → length vault ≡ 256 → length save ≡ 256
     → IsCore o first resources pairs [] false vault save
-core_at_first o first resources pairs vault save are listed few barred no_vault no_save vault_len save_len = record {
+core_at_first o first resources pairs vault save are listed starts few barred no_vault no_save vault_len save_len = record {
   kept = record {
     legal = refl;
     count = first_count resources o.restored are;
@@ -79,6 +80,7 @@ core_at_first o first resources pairs vault save are listed few barred no_vault 
     vault = λ k. no_vault k ∙ none_due (nat_lt k (length resources)) (vault_due o [] k) (no_vault_due (restored_at o k) o.guarded);
     save = λ k. no_save k ∙ none_due (nat_lt k (length resources)) (save_due o [] k) (no_save_due (restored_at o k) o.guarded);
   };
+  starts = starts;
   few = few;
   barred = barred;
   vault = vault_len;

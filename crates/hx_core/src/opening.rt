@@ -4,7 +4,7 @@ ghost use Rattle.std.specs.Prelude.{◌≡◌, ◌+◌, ◌<◌, ◌≤◌, ◌�
 ghost use Rattle.hx_events.specs.Places.{place_of};
 ghost use Rattle.hx_rules.specs.Legal.{found_backup, is_barred, opening_of};
 ghost use Rattle.hx_resource.specs.Kept.{kept_at_first};
-ghost use Rattle.hx_core.specs.Opens.{AreFirst, first_of, restored_of, with_name, with_restored};
+ghost use Rattle.hx_core.specs.Opens.{AreFirst, ArePlaced, first_of, restored_of, with_name, with_restored};
 
 use crate::machine::Core;
 use hx_backups::Backups;
@@ -122,6 +122,7 @@ fn first_resources(
     requires few { length names.now ≤ 256 }
     ensures restored { OnOk result (restored.new.items ≡ restored_of names.now base.now) }
     ensures resources { IfOk result (λ resources. AreFirst resources.items restored.new.items) }
+    ensures placed { OnOk result (ArePlaced names.now) }
 {
     let mut resources = Vec::with_capacity(alloc, names.len())?;
     for i in 0..names.len() {

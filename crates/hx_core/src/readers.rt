@@ -1,6 +1,6 @@
 //! What a core says of its life. No call takes memory but `copies`.
 
-ghost use Rattle.std.specs.Prelude.{◌≡◌, ◌-◌, ◌<◌, ◌≤◌, ◌&&◌, ℕ, true, length, option_map, is_some, IfSome};
+ghost use Rattle.std.specs.Prelude.{◌≡◌, ◌-◌, ◌<◌, ◌≤◌, ◌&&◌, ℕ, true, length, option_map, is_some, IfOk, IfSome};
 ghost use Rattle.hx_rules.specs.Entries.{own, past};
 ghost use Rattle.hx_rules.specs.Versions.{version_at, versions};
 ghost use Rattle.hx_rules.specs.Copies.{registered};
@@ -13,15 +13,17 @@ ghost use Rattle.hx_resource.specs.Kept.{dirty_now};
 ghost use Rattle.hx_core.specs.States.{state_of, state_by};
 ghost use Rattle.hx_seq.specs.Keeps.{Keeps};
 ghost use Rattle.hx_resource_laws.specs.Fits.{Fits, FitsCopy};
-ghost use Rattle.hx_core.specs.Listed.{listed};
+ghost use Rattle.hx_core.specs.Listed.{ListsDone, listed};
+ghost use Rattle.hx_core.specs.Registered.{copies_of, fact_at, registered_at};
 
 use crate::machine::Core;
 use hx_backups::Backups;
 use hx_copy::WorkingCopy;
-use hx_events::{CopyState, Entry, Names, ResNo};
+use hx_events::{CopyFact, CopyState, Entry, Names, ResNo};
 use hx_resource::{BegunBackup, Resource};
 use hx_seq::Sequencer;
 use hx_tracker::DueIndex;
+use std::alloc::{AllocError, Global};
 
 impl Core {
     /// The entries so far, the oldest first.
@@ -135,9 +137,44 @@ impl Core {
     /// The list of the resources that have a completed backup, each with its version. The restored resources stand first, in
     /// the order of their pairs; a resource whose backup was discarded is taken out, and comes last when it has one again.
     pub fn backups(&self) -> &Backups
-        ensures { result.now.pairs ≡ listed self.now.first (past self.now.history) }
+        ensures listed { result.now.pairs ≡ listed self.now.first (past self.now.history) }
+        ensures done { ListsDone self.now.opening (past self.now.history) result.now.pairs }
     {
         &self.backups
+    }
+
+    /// The registered copies in the order of their resources, each with what an exit asks of it.
+    pub fn copies(&self, alloc: Global) -> Result<Vec<CopyFact>, AllocError>
+        ensures { IfOk result (λ copies. copies.items ≡ copies_of self.now.opening (past self.now.history)) }
+    {
+        let mut copies = Vec::new(alloc);
+        for i in 0..self.resources.len() {
+            let res = ResNo::new(i as u32);
+            if self.is_registered(res) {
+                copies.push(self.fact(res))?;
+            }
+        }
+        Ok(copies)
+    }
+
+    fn is_registered(&self, res: ResNo) -> bool
+        requires { res < length self.now.resources }
+        ensures { result ≡ registered_at self.now.opening (past self.now.history) res }
+    {
+        self.resource(res).is_open()
+    }
+
+    // What an exit asks of the copy.
+    fn fact(&self, res: ResNo) -> CopyFact
+        requires { res < length self.now.resources }
+        ensures { result ≡ fact_at self.now.opening (past self.now.history) res }
+    {
+        let resource = self.resource(res);
+        CopyFact {
+            res,
+            dirty: resource.is_dirty(),
+            backed: resource.is_backed(),
+        }
     }
 
     // How many resources hold a pair.

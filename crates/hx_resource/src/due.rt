@@ -1,12 +1,14 @@
 //! Which stages of a resource are due.
 
-ghost use Rattle.std.specs.Prelude.{◌≡◌, false, None, length, option_map, is_some};
-ghost use Rattle.hx_rules.specs.Due.{next_work, run_version};
+ghost use Rattle.std.specs.Prelude.{◌≡◌, length, option_map, is_some};
+ghost use Rattle.hx_rules.specs.Due.{next_work, run_version, stage_due};
 ghost use Rattle.hx_resource.specs.Kept.{is_safe_to};
-ghost use Rattle.hx_resource.specs.Rows.{is_backed, vault_due_kept, save_due_kept, save_work_of};
+ghost use Rattle.hx_resource.specs.Rows.{facts_kept, is_backed, vault_due_kept, save_due_kept, save_work_of};
+ghost use Rattle.hx_resource.specs.Flagged.{flags_by, new_version, version_by};
 
 use crate::resource::Resource;
 use hx_events::Stage;
+use hx_tracker::{Flags, due};
 use std::marker::Model;
 
 /// A vault stage with its version. A Fade and a Drop have the version 0.
@@ -45,50 +47,64 @@ impl Resource {
     pub fn due_vault(&self, guarded: bool) -> Option<DueStage>
         ensures { result ≡ vault_due_kept guarded self.now.kept }
     {
-        if self.halted {
-            return None;
-        }
-        match self.next_work() {
-            Some(work) => Some(work),
-            None => self.due_new(guarded),
+        match due(self.flags(guarded)) {
+            None => None,
+            Some(stage) => Some(DueStage {
+                stage,
+                version: self.stage_version(guarded, stage),
+            }),
         }
     }
 
-    // The due stage where no backup is begun.
-    fn due_new(&self, guarded: bool) -> Option<DueStage>
-        requires halted { self.now.kept.halted ≡ false }
-        requires begun { next_work self.now.kept.begun ≡ None }
-        ensures { result ≡ vault_due_kept guarded self.now.kept }
+    // What decides which vault stage is due.
+    fn flags(&self, guarded: bool) -> Flags
+        ensures { result ≡ flags_by (facts_kept guarded self.now.kept) }
     {
         let held = self.is_held(guarded);
-        let dirty = self.is_dirty();
-        if held && !self.is_safe() {
-            return Some(DueStage {
-                stage: Stage::Prepare,
-                version: self.running_version(),
-            });
+        Flags {
+            dirty: self.is_dirty(),
+            backed: self.is_backed(),
+            begun: self.next_stage(),
+            halted: self.halted,
+            opened: self.opened,
+            faded: self.faded,
+            held,
+            safe: held && self.is_safe(),
+            keep: guarded && self.write_failed,
         }
-        if dirty && !self.is_backed() {
-            return Some(DueStage {
-                stage: Stage::Prepare,
-                version: self.last,
-            });
-        }
-        if dirty || held || !self.opened || (guarded && self.write_failed) {
-            return None;
-        }
-        Some(DueStage {
-            stage: if self.faded { Stage::Drop } else { Stage::Fade },
-            version: 0,
-        })
     }
 
-    fn next_work(&self) -> Option<DueStage>
-        ensures { result ≡ next_work self.now.kept.begun }
+    fn next_stage(&self) -> Option<Stage>
+        ensures { result ≡ stage_due (next_work self.now.kept.begun) }
     {
         match &self.begun {
             None => None,
             Some(begun) => Some(begun.next()),
+        }
+    }
+
+    // The version of a due stage.
+    fn stage_version(&self, guarded: bool, stage: Stage) -> u64
+        ensures { result ≡ version_by (facts_kept guarded self.now.kept) stage }
+    {
+        match &self.begun {
+            None => self.new_version(guarded, stage),
+            Some(begun) => begun.version(),
+        }
+    }
+
+    fn new_version(&self, guarded: bool, stage: Stage) -> u64
+        ensures { result ≡ new_version (facts_kept guarded self.now.kept) stage }
+    {
+        match stage {
+            Stage::Prepare => {
+                if self.is_held(guarded) && !self.is_safe() {
+                    self.running_version()
+                } else {
+                    self.last
+                }
+            }
+            _ => 0,
         }
     }
 

@@ -2,10 +2,9 @@
 
 ghost use Rattle.std.specs.Prelude.{◌≡◌, ◌||◌, ◌&&◌, None, not, length, is_some, option_map};
 ghost use Rattle.hx_resource.specs.Kept.{dirty_now, content_in, base_in, held_by, wanted_by, kept_at_first, restored_kept};
-ghost use Rattle.hx_rules.specs.Due.{next_stage, vault_work};
+ghost use Rattle.hx_rules.specs.Due.{next_stage};
 ghost use Rattle.hx_resource.specs.Rows.{undo_in, redo_in, is_backed};
 
-use crate::due::DueStage;
 use hx_copy::WorkingCopy;
 use hx_etag::Stat;
 use hx_events::{Bytes, Stage};
@@ -54,19 +53,30 @@ impl BegunBackup {
         self.content.as_slice()
     }
 
-    // The next stage: a block of the body, or the opening.
-    pub(crate) fn next(&self) -> DueStage
-        ensures { result ≡ vault_work (next_stage self.now) self.now.snapshot.version }
+    /// The length of the content.
+    pub fn size(&self) -> u64
+        ensures { result ≡ self.now.size }
     {
-        let size = self.content.as_slice().len() as u64;
+        self.content.as_slice().len() as u64
+    }
+
+    /// How many blocks of the body are written.
+    pub fn blocks(&self) -> u64
+        ensures { result ≡ self.now.blocks }
+    {
+        self.blocks
+    }
+
+    // The next stage: a block of the body, or the opening.
+    pub(crate) fn next(&self) -> Stage
+        ensures { result ≡ next_stage self.now }
+    {
+        let size = self.size();
         let blocks = if size == 0 { 1 } else { (size - 1) / 4096 + 1 };
-        DueStage {
-            stage: if self.blocks < blocks {
-                Stage::Body
-            } else {
-                Stage::Open
-            },
-            version: self.version,
+        if self.blocks < blocks {
+            Stage::Body
+        } else {
+            Stage::Open
         }
     }
 }
