@@ -8,7 +8,7 @@ use Rattle.hx_events.specs.declared.event.Event.{Event}
 use Rattle.hx_events.specs.declared.event.Event.TheVariants.{Act, Vault, Flush, Quit}
 use Rattle.hx_events.specs.declared.life.Entry.{Entry}
 use Rattle.hx_events.specs.declared.outcome.Outcome.{Outcome}
-use Rattle.hx_events.specs.declared.outcome.Outcome.TheVariants.{Quit as MayQuit, Vetoed, Spent, StageOk}
+use Rattle.hx_events.specs.declared.outcome.Outcome.TheVariants.{Quit as MayQuit, Vetoed, Spent}
 use Rattle.hx_rules.specs.Entries.{Deed, deed, own, past, is_of}
 use Rattle.hx_rules.specs.Due.{due_vault, due_save}
 use Rattle.hx_rules.specs.Legal.{quit_row, lowest, is_unsafe, Opening, restored_at, is_legal, is_row, lacks_pair, was_spent, is_spent, vault_due, save_due}

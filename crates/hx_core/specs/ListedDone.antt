@@ -19,11 +19,11 @@ use Rattle.hx_events.specs.Places.{is_named, place_of}
 use Rattle.hx_backups.specs.Backups.{version_of}
 use Rattle.hx_rules.specs.Entries.{Deed, deed, own, is_of}
 use Rattle.hx_rules.specs.Backups.{done}
-use Rattle.hx_rules.specs.Legal.{Opening, opening_of, restored_at, found_backup, is_legal, is_row, quit_row, lowest, is_unsafe}
+use Rattle.hx_rules.specs.Legal.{Opening, restored_at, found_backup, is_legal, is_row, quit_row, lowest, is_unsafe}
 use Rattle.hx_rules_laws.specs.Rows.{row_holds, past_legal}
 use Rattle.hx_resource.specs.Kept.{done_version_after}
 use Rattle.hx_resource_laws.specs.SlotFits.{done_same}
-use Rattle.hx_core.specs.Listed.{res_of, listed, listed_after, StandsOnce, ListsDone, version_done}
+use Rattle.hx_core.specs.Listed.{res_of, listed, listed_after, StandsOnce, ListsDone}
 use Rattle.hx_core.specs.Opens.{ArePlaced, first_of, with_first}
 
 -- ---- one item

@@ -7,6 +7,8 @@
 mod machine;
 mod opening;
 mod readers;
+#[cfg(test)]
+mod sessions;
 mod step;
 #[cfg(test)]
 mod tests;

@@ -1,102 +1,135 @@
 ghost use Rattle.hx_core.specs.Cores.{IsEventOf};
+ghost use Rattle.hx_events.specs.declared.backup.TheConstants.{CONTENT_MAX};
+ghost use Rattle.hx_events.specs.Texts.{IsOutcomeOf};
 ghost use Rattle.hx_resource.specs.Asks.{FitsAsked, FitsWork};
 ghost use Rattle.hx_resource.specs.Rooms.{got_content};
-ghost use Rattle.hx_events.specs.declared.backup.TheConstants.{CONTENT_MAX};
 ghost use Rattle.std.specs.Prelude.{◌≡◌, ◌≤◌, true, length, IfOk};
 
+use crate::sessions::SESSIONS;
 use crate::step::named;
 use crate::{Asked, Core, Got, Work};
 use hx_etag::Stat;
 use hx_events::{
-    Actor, Bytes, CONTENT_MAX, Command, CopyState, Event, Names, Outcome, ResNo, Stage,
+    Actor, Backup, Bytes, CONTENT_MAX, Command, CopyFact, Event, Names, Outcome, PairFound, ResNo,
+    Side, Stage, outcome_text,
 };
 use hx_seq::SaveAnswer;
 use std::alloc::{AllocError, Global};
 use std::process::Abort;
 use std::test::Fail;
 
-// An event of the first resource.
-#[derive(Clone, Copy)]
-enum Do {
-    Open,
-    Create,
-    Edit(&'static [u8]),
-    Undo,
-    Save(bool, bool),
-    Close,
-    Outside,
-    Vault,
-    Flush,
-    Quit,
+// The text up to the first of these marks, and what lies behind it.
+fn parted<'a>(text: &'a str, mark: &'static str) -> (&'a str, &'a str) {
+    match text.split_once(mark) {
+        None => (text, ""),
+        Some(parts) => parts,
+    }
 }
 
-// What the device answers, where it is asked.
-#[derive(Clone, Copy)]
-enum Device {
-    Works,
-    Fails,
-    Spent,
-    Stat(u64, u64),
-    Text(u64, &'static [u8]),
+fn number(text: &str) -> u64 {
+    match text.parse::<u64>() {
+        Ok(number) => number,
+        Err(_) => 0,
+    }
 }
 
-fn event(alloc: Global, done: Do) -> Result<Event, AllocError> {
-    let res = ResNo::new(0);
-    Ok(match done {
-        Do::Open => Event::Act(Command::Open(res)),
-        Do::Create => Event::Act(Command::Create(res)),
-        Do::Edit(text) => Event::Act(Command::Edit {
-            res,
-            off: 0,
-            del: 0,
-            text: Bytes::new(text.to_vec(alloc)?),
+// Two numbers, or none.
+fn stat(text: &str) -> Option<Stat> {
+    let (mtime, size) = parted(text, " ");
+    match mtime.parse::<u64>() {
+        Ok(mtime) => Some(Stat {
+            mtime,
+            size: number(size),
         }),
-        Do::Undo => Event::Act(Command::Undo(res)),
-        Do::Save(force, over) => Event::Act(Command::Save { res, force, over }),
-        Do::Close => Event::Act(Command::Close(res)),
-        Do::Outside => Event::Act(Command::Outside {
-            res,
-            mtime: 5000,
-            text: Bytes::new(Vec::new(alloc)),
-        }),
-        Do::Vault => Event::Vault(res),
-        Do::Flush => Event::Flush(res),
-        Do::Quit => Event::Quit,
+        Err(_) => None,
+    }
+}
+
+fn edit(alloc: Global, res: ResNo, text: &str) -> Result<Command, AllocError> {
+    let (off, rest) = parted(text, " ");
+    let (del, text) = parted(rest, " ");
+    let text = Bytes::new(text.as_bytes().to_vec(alloc)?);
+    Ok(Command::Edit {
+        res,
+        off: number(off),
+        del: number(del),
+        text,
     })
+}
+
+fn outside(alloc: Global, res: ResNo) -> Command {
+    Command::Outside {
+        res,
+        mtime: 0,
+        text: Bytes::new(Vec::new(alloc)),
+    }
+}
+
+// The event of a word with what follows it. A word that names none asks whether the program may end.
+fn event(alloc: Global, res: ResNo, text: &str) -> Result<Event, AllocError> {
+    let (word, rest) = parted(text, " ");
+    Ok(match word {
+        "open" => Event::Act(Command::Open(res)),
+        "create" => Event::Act(Command::Create(res)),
+        "edit" => Event::Act(edit(alloc, res, rest)?),
+        "undo" => Event::Act(Command::Undo(res)),
+        "redo" => Event::Act(Command::Redo(res)),
+        "save" => Event::Act(Command::Save {
+            res,
+            force: rest == "force",
+            over: rest == "over",
+        }),
+        "close" => Event::Act(Command::Close(res)),
+        "outside" => Event::Act(outside(alloc, res)),
+        "vault" => Event::Vault(res),
+        "flush" => Event::Flush(res),
+        _ => Event::Quit,
+    })
+}
+
+// The file that is found, if there is one: its time, and its text or as many bytes as a content may have.
+fn file(alloc: Global, device: &str) -> Result<Option<(u64, Vec<u8>)>, AllocError> {
+    let (word, rest) = parted(device, " ");
+    let (mtime, text) = parted(rest, " ");
+    match word {
+        "text" => Ok(Some((number(mtime), text.as_bytes().to_vec(alloc)?))),
+        "full" => Ok(Some((number(mtime), vec![in alloc; b'x'; CONTENT_MAX as usize]?))),
+        _ => Ok(None),
+    }
+}
+
+fn found_stat(device: &str) -> Option<Stat> {
+    match parted(device, " ") {
+        ("stat", rest) => stat(rest),
+        _ => None,
+    }
 }
 
 // The device's answer to this work.
-fn answer(alloc: Global, work: Work, device: Device) -> Result<Got, AllocError>
+fn answer(alloc: Global, work: Work, device: &str) -> Result<Got, AllocError>
     ensures fits { IfOk result (λ got. FitsWork work got) }
     ensures few { IfOk result (λ got. length (got_content got) ≤ CONTENT_MAX) }
 {
+    if device == "fails" {
+        return Ok(Got::Failed);
+    }
     Ok(match work {
-        Work::ReadFile(_) => match device {
-            Device::Text(mtime, text) if text.len() as u64 <= CONTENT_MAX => {
-                let size = text.len() as u64;
-                Got::Read(Stat { mtime, size }, Bytes::new(text.to_vec(alloc)?))
+        Work::ReadFile(_) => match file(alloc, device)? {
+            None => Got::Found(None),
+            Some((mtime, content)) if content.len() as u64 <= CONTENT_MAX => {
+                let size = content.len() as u64;
+                Got::Read(Stat { mtime, size }, Bytes::new(content))
             }
-            Device::Works => Got::Found(None),
-            _ => Got::Failed,
+            Some(_) => Got::Failed,
         },
-        Work::OutsideWrite => match device {
-            Device::Works => Got::Done,
-            _ => Got::Failed,
-        },
-        Work::Check(_) | Work::Write(_) => match device {
-            Device::Works => Got::Found(None),
-            Device::Stat(mtime, size) => Got::Found(Some(Stat { mtime, size })),
-            _ => Got::Failed,
-        },
-        Work::Vault(_, stage) => match (stage, device) {
-            (Stage::Prepare, Device::Spent) => Got::Spent,
-            (_, Device::Works) => Got::Done,
-            _ => Got::Failed,
-        },
+        Work::OutsideWrite => Got::Done,
+        Work::Check(_) | Work::Write(_) => Got::Found(found_stat(device)),
+        Work::Vault(_, Stage::Prepare) if device == "spent" => Got::Spent,
+        Work::Vault(_, _) => Got::Done,
     })
 }
 
-fn answer_to(alloc: Global, asked: Asked, device: Device) -> Result<Got, AllocError>
+fn answer_to(alloc: Global, asked: Asked, device: &str) -> Result<Got, AllocError>
     ensures fits { IfOk result (λ got. FitsAsked asked got) }
     ensures few { IfOk result (λ got. length (got_content got) ≤ CONTENT_MAX) }
 {
@@ -115,7 +148,16 @@ fn is_of_life(event: &Event, count: usize) -> bool
     }
 }
 
-fn core_of(alloc: Global, guarded: bool) -> Result<Core, Fail> {
+fn is_outcome_of(outcome: &Outcome, names: &Names) -> bool
+    ensures { result ≡ true → IsOutcomeOf names.now outcome.now }
+{
+    match outcome {
+        Outcome::Vetoed(res) => (res.number() as usize) < names.len(),
+        _ => true,
+    }
+}
+
+fn declared(alloc: Global, guarded: bool) -> Result<Core, Fail> {
     let mut names = Names::new(alloc);
     let Ok(_) = names.add(b"file:///a".to_vec(alloc)?) else {
         return Err(AllocError.into());
@@ -123,237 +165,159 @@ fn core_of(alloc: Global, guarded: bool) -> Result<Core, Fail> {
     Ok(Core::new(alloc, names, &[], guarded)?)
 }
 
+// A core whose resource is restored from this stat and content.
+fn restored(alloc: Global, text: &str) -> Result<Core, Fail> {
+    let base = stat(text);
+    let content = text.rsplit(' ').next().unwrap_or("");
+    let backup = Backup {
+        resource: Bytes::new(b"file:///a".to_vec(alloc)?),
+        base,
+        content: Bytes::new(content.as_bytes().to_vec(alloc)?),
+    };
+    let pairs = [PairFound::Found(backup, Side::A)];
+    Ok(Core::new(alloc, Names::new(alloc), &pairs, false)?)
+}
+
+fn begun(alloc: Global, life: &str) -> Result<Core, Fail> {
+    match life.strip_prefix("life restored ") {
+        Some(text) => restored(alloc, text),
+        None => declared(alloc, life == "life guarded"),
+    }
+}
+
+// Takes the event, and compares the outcome's text.
 fn take(
     rt: &impl Abort,
     alloc: Global,
     core: &mut Core,
-    done: Do,
-    device: Device,
-) -> Result<Outcome, Fail> {
-    let event = event(alloc, done)?;
+    event: Event,
+    device: &str,
+    wanted: &str,
+) -> Result<(), Fail> {
     assert!(rt; is_of_life(&event, core.count()));
     core.reserve(&event, CONTENT_MAX)?;
     let got = answer_to(alloc, core.ask(&event), device)?;
-    Ok(core.step(Actor::Window(0), event, got, 0, 0))
+    let outcome = core.step(Actor::Window(0), event, got, 0, 0);
+    assert!(rt; is_outcome_of(&outcome, core.names()));
+    let text = outcome_text(alloc, core.names(), &outcome)?;
+    assert!(rt;
+        text.as_slice() == wanted.as_bytes(),
+        "{outcome:?} is not {wanted}"
+    );
+    Ok(())
 }
 
-// Takes the events in turn, and compares the outcomes.
-fn session(
-    rt: &impl Abort,
-    alloc: Global,
-    core: &mut Core,
-    lines: &[(Do, Device, Outcome)],
-) -> Result<(), Fail> {
-    for (done, device, outcome) in lines {
-        let place = core.history().len() + 1;
-        assert_eq!(rt; take(rt, alloc, core, *done, *device)?, *outcome, "{place}");
+// Compares the copy and its backup.
+fn stands(rt: &impl Abort, alloc: Global, core: &Core, text: &str) -> Result<(), Fail> {
+    let res = ResNo::new(0);
+    let (version, rest) = parted(text, " ");
+    assert!(rt; core.count() == 1);
+    let copies = core.copies(alloc)?;
+    if version == "none" {
+        assert!(rt; copies.is_empty(), "{text}");
+        assert_eq!(rt; core.done(res), optional(rest), "{text}");
+        return Ok(());
+    }
+    let (state, backup) = parted(rest, " ");
+    let fact = CopyFact {
+        res,
+        dirty: state == "dirty",
+        backed: backup == version,
+    };
+    assert_eq!(rt;
+        core.copy(res).map(|copy| copy.version()),
+        optional(version),
+        "{text}"
+    );
+    assert_eq!(rt; core.done(res), optional(backup), "{text}");
+    assert_eq!(rt; copies.as_slice(), [fact].as_slice(), "{text}");
+    Ok(())
+}
+
+fn optional(text: &str) -> Option<u64> {
+    match text.parse::<u64>() {
+        Ok(number) => Some(number),
+        Err(_) => None,
+    }
+}
+
+fn save_answer(text: &str) -> Option<SaveAnswer> {
+    match parted(text, " ") {
+        ("saved", version) => Some(SaveAnswer::Saved(number(version))),
+        ("clean", _) => Some(SaveAnswer::Clean),
+        ("modified", _) => Some(SaveAnswer::ModifiedSince),
+        ("fault", _) => Some(SaveAnswer::DiskFault),
+        ("unguarded", _) => Some(SaveAnswer::Unguarded),
+        _ => None,
+    }
+}
+
+// A line of a session: an event with its outcome, or how something stands.
+fn play(rt: &impl Abort, alloc: Global, core: &mut Core, line: &str) -> Result<(), Fail> {
+    let res = ResNo::new(0);
+    if let Some((done, wanted)) = line.split_once(" => ") {
+        let (done, device) = parted(done, ", ");
+        return take(rt, alloc, core, event(alloc, res, done)?, device, wanted);
+    }
+    let (word, rest) = parted(line, " ");
+    assert!(rt; core.count() == 1);
+    match word {
+        "copy" => stands(rt, alloc, core, rest)?,
+        "saving" => assert_eq!(rt; core.saving(res), Some(rest.as_bytes()), "{line}"),
+        "ticket" => {
+            let (ticket, answer) = parted(rest, " ");
+            let given = core.sequencer(res).answer_of(number(ticket));
+            assert_eq!(rt; given, save_answer(answer), "{line}");
+        }
+        _ => assert!(rt; line.is_empty(), "{line}"),
     }
     Ok(())
 }
 
-fn stat(mtime: u64, size: u64) -> Stat {
-    Stat { mtime, size }
-}
-
-fn saved(version: u64, mtime: u64, size: u64) -> Outcome {
-    Outcome::Saved(version, Some(stat(mtime, size)))
-}
-
-fn checked(mtime: u64, size: u64) -> Outcome {
-    Outcome::Checked(Some(stat(mtime, size)))
-}
-
-fn modified(mtime: u64, size: u64) -> Outcome {
-    Outcome::Modified(stat(mtime, size))
-}
-
 #[test]
-fn requests_wait_for_the_running_save(rt: HostRuntime) -> Result<(), Fail> {
-    let mut core = core_of(rt.alloc(), false)?;
-    session(
-        &rt,
-        rt.alloc(),
-        &mut core,
-        &[
-            (Do::Create, Device::Works, Outcome::Created(1)),
-            (Do::Edit(b"a"), Device::Works, Outcome::Edited(2)),
-            (Do::Save(false, false), Device::Works, Outcome::Started(2)),
-            (Do::Edit(b"b"), Device::Works, Outcome::Edited(3)),
-            (Do::Save(false, false), Device::Works, Outcome::Queued),
-            (Do::Edit(b"c"), Device::Works, Outcome::Edited(4)),
-            (Do::Save(false, false), Device::Works, Outcome::Queued),
-            (Do::Edit(b"d"), Device::Works, Outcome::Edited(5)),
-            (Do::Save(false, false), Device::Works, Outcome::Queued),
-            (Do::Flush, Device::Works, Outcome::Checked(None)),
-            (Do::Flush, Device::Stat(2000, 1), saved(2, 2000, 1)),
-            (Do::Flush, Device::Stat(2000, 1), checked(2000, 1)),
-        ],
-    )?;
-    assert!(rt; core.count() == 1);
-    assert_eq!(rt; core.saving(ResNo::new(0)), Some(b"dcba".as_slice()));
-    assert_eq!(rt; core.state(ResNo::new(0)), CopyState::Saving);
-    session(
-        &rt,
-        rt.alloc(),
-        &mut core,
-        &[
-            (Do::Flush, Device::Stat(4000, 4), saved(5, 4000, 4)),
-            (Do::Flush, Device::Works, Outcome::Idle),
-        ],
-    )?;
-    assert!(rt; core.count() == 1);
-    for (ticket, answer) in [(3, 2), (5, 5), (7, 5), (9, 5)] {
-        let given = core.sequencer(ResNo::new(0)).answer_of(ticket);
-        assert_eq!(rt; given, Some(SaveAnswer::Saved(answer)), "{ticket}");
+fn sessions_of_one_resource(rt: HostRuntime) -> Result<(), Fail> {
+    for session in SESSIONS.split("\n\n") {
+        let (life, lines) = parted(session, "\n");
+        let mut core = begun(rt.alloc(), life)?;
+        for line in lines.split('\n') {
+            play(&rt, rt.alloc(), &mut core, line)?;
+        }
     }
-    assert_eq!(rt; core.state(ResNo::new(0)), CopyState::Clean);
     Ok(())
 }
 
+fn names_of(rt: &impl Abort, alloc: Global, count: u32) -> Result<Names, Fail> {
+    let mut names = Names::new(alloc);
+    for i in 0..count {
+        let name = format!(in alloc; "file:///{i}")?.into_bytes();
+        assert!(rt; names.len() < 256 && names.find(name.as_slice()).is_none());
+        let Ok(_) = names.add(name) else {
+            return Err(AllocError.into());
+        };
+    }
+    Ok(names)
+}
+
 #[test]
-fn an_edit_during_a_save_stays_unsaved(rt: HostRuntime) -> Result<(), Fail> {
-    let mut core = core_of(rt.alloc(), false)?;
-    session(
-        &rt,
-        rt.alloc(),
-        &mut core,
-        &[
-            (Do::Create, Device::Works, Outcome::Created(1)),
-            (Do::Edit(b"a"), Device::Works, Outcome::Edited(2)),
-            (
-                Do::Vault,
-                Device::Works,
-                Outcome::StageOk(Stage::Prepare, 2),
-            ),
-            (Do::Vault, Device::Works, Outcome::StageOk(Stage::Body, 2)),
-            (Do::Vault, Device::Works, Outcome::StageOk(Stage::Open, 2)),
-            (Do::Save(false, false), Device::Works, Outcome::Started(2)),
-            (Do::Flush, Device::Works, Outcome::Checked(None)),
-            (Do::Edit(b"b"), Device::Works, Outcome::Edited(3)),
-            (Do::Flush, Device::Stat(5000, 1), saved(2, 5000, 1)),
-            (Do::Quit, Device::Works, Outcome::Vetoed(ResNo::new(0))),
-            (
-                Do::Vault,
-                Device::Works,
-                Outcome::StageOk(Stage::Prepare, 3),
-            ),
-            (Do::Vault, Device::Works, Outcome::StageOk(Stage::Body, 3)),
-            (Do::Vault, Device::Works, Outcome::StageOk(Stage::Open, 3)),
-            (Do::Quit, Device::Works, Outcome::Quit),
-        ],
-    )?;
-    assert_eq!(rt; core.due_vault(), None);
-    assert_eq!(rt; core.due_save(), None);
+fn the_sixty_fifth_copy_has_no_pair(rt: HostRuntime) -> Result<(), Fail> {
+    let names = names_of(&rt, rt.alloc(), 65)?;
+    assert!(rt; names.len() <= 256);
+    let mut core = Core::new(rt.alloc(), names, &[], false)?;
+    let (first, last) = (ResNo::new(0), ResNo::new(64));
+    for i in 0..64 {
+        let create = event(rt.alloc(), ResNo::new(i), "create")?;
+        take(&rt, rt.alloc(), &mut core, create, "", "created 1")?;
+    }
+    for (res, done, wanted) in [
+        (last, "create", "nopair"),
+        (first, "close", "closed"),
+        (last, "create", "created 1"),
+    ] {
+        let event = event(rt.alloc(), res, done)?;
+        take(&rt, rt.alloc(), &mut core, event, "", wanted)?;
+    }
+    let flush = Event::Flush(first);
+    assert!(rt; is_of_life(&flush, core.count()));
+    assert_eq!(rt; core.ask(&flush), Asked::Settled(Outcome::Idle));
     Ok(())
-}
-
-#[test]
-fn a_failed_stage_waits_for_a_change(rt: HostRuntime) -> Result<(), Fail> {
-    let mut core = core_of(rt.alloc(), false)?;
-    session(
-        &rt,
-        rt.alloc(),
-        &mut core,
-        &[
-            (Do::Create, Device::Works, Outcome::Created(1)),
-            (Do::Edit(b"hello"), Device::Works, Outcome::Edited(2)),
-            (
-                Do::Vault,
-                Device::Works,
-                Outcome::StageOk(Stage::Prepare, 2),
-            ),
-            (
-                Do::Vault,
-                Device::Fails,
-                Outcome::StageFault(Stage::Body, 2),
-            ),
-            (Do::Vault, Device::Works, Outcome::Idle),
-            (Do::Edit(b"!"), Device::Works, Outcome::Edited(3)),
-            (
-                Do::Vault,
-                Device::Works,
-                Outcome::StageOk(Stage::Prepare, 3),
-            ),
-            (Do::Vault, Device::Works, Outcome::StageOk(Stage::Body, 3)),
-            (Do::Vault, Device::Works, Outcome::StageOk(Stage::Open, 3)),
-            (Do::Close, Device::Works, Outcome::Closed),
-            (Do::Vault, Device::Works, Outcome::StageOk(Stage::Fade, 0)),
-            (Do::Vault, Device::Works, Outcome::StageOk(Stage::Drop, 0)),
-            (Do::Vault, Device::Works, Outcome::Idle),
-        ],
-    )?;
-    assert!(rt; core.count() == 1);
-    assert!(rt; !core.holds(ResNo::new(0)));
-    Ok(())
-}
-
-#[test]
-fn a_conflict_and_refusals(rt: HostRuntime) -> Result<(), Fail> {
-    let mut core = core_of(rt.alloc(), false)?;
-    session(
-        &rt,
-        rt.alloc(),
-        &mut core,
-        &[
-            (Do::Save(false, false), Device::Works, Outcome::NotOpen),
-            (Do::Open, Device::Works, Outcome::Missing),
-            (Do::Open, Device::Fails, Outcome::Fault),
-            (Do::Outside, Device::Works, Outcome::Written),
-            (
-                Do::Open,
-                Device::Text(5000, b"one"),
-                Outcome::Opened(stat(5000, 3)),
-            ),
-            (Do::Open, Device::Works, Outcome::AlreadyOpen),
-            (Do::Edit(b"!"), Device::Works, Outcome::Edited(2)),
-            (Do::Save(false, false), Device::Works, Outcome::Started(2)),
-            (Do::Close, Device::Works, Outcome::Saving),
-            (Do::Flush, Device::Stat(9000, 5), modified(9000, 5)),
-            (Do::Save(false, true), Device::Works, Outcome::Started(2)),
-            (Do::Flush, Device::Stat(9000, 5), checked(9000, 5)),
-            (Do::Flush, Device::Stat(6000, 4), saved(2, 6000, 4)),
-            (Do::Undo, Device::Works, Outcome::Undone(3)),
-            (Do::Undo, Device::Works, Outcome::NoUndo),
-            (Do::Vault, Device::Spent, Outcome::Spent),
-            (Do::Edit(b"x"), Device::Works, Outcome::Edited(4)),
-            (Do::Vault, Device::Works, Outcome::Spent),
-        ],
-    )
-}
-
-#[test]
-fn a_guarded_write_waits_for_its_backup(rt: HostRuntime) -> Result<(), Fail> {
-    let mut core = core_of(rt.alloc(), true)?;
-    session(
-        &rt,
-        rt.alloc(),
-        &mut core,
-        &[
-            (Do::Create, Device::Works, Outcome::Created(1)),
-            (Do::Edit(b"a"), Device::Works, Outcome::Edited(2)),
-            (Do::Save(false, false), Device::Works, Outcome::Started(2)),
-            (Do::Flush, Device::Works, Outcome::Checked(None)),
-            (Do::Flush, Device::Works, Outcome::Idle),
-            (
-                Do::Vault,
-                Device::Works,
-                Outcome::StageOk(Stage::Prepare, 2),
-            ),
-            (Do::Vault, Device::Works, Outcome::StageOk(Stage::Body, 2)),
-            (Do::Vault, Device::Works, Outcome::StageOk(Stage::Open, 2)),
-            (Do::Flush, Device::Stat(5000, 1), saved(2, 5000, 1)),
-            (Do::Vault, Device::Works, Outcome::StageOk(Stage::Fade, 0)),
-            (Do::Vault, Device::Works, Outcome::StageOk(Stage::Drop, 0)),
-            (Do::Edit(b"b"), Device::Works, Outcome::Edited(3)),
-            (Do::Save(false, false), Device::Works, Outcome::Started(3)),
-            (Do::Flush, Device::Stat(5000, 1), checked(5000, 1)),
-            (
-                Do::Vault,
-                Device::Fails,
-                Outcome::StageFault(Stage::Prepare, 3),
-            ),
-            (Do::Flush, Device::Works, Outcome::Unguarded(3)),
-            (Do::Flush, Device::Works, Outcome::Idle),
-        ],
-    )
 }
