@@ -9,7 +9,7 @@ use Rattle.std.proofs.lemmas.List.Sums.{prefix_len-le-length}
 use Rattle.std.proofs.lemmas.Bool.Decides.{nat_tests}
 use Rattle.memchr.specs.Find.{IsFirstByte, is_byte as passes}
 use Rattle.hx_events.specs.Fields.{fields_of, onto_first}
-use Rattle.hx_script.specs.Lines.{is_byte, cut_at, texts}
+use Rattle.hx_script.specs.Lines.{is_byte, cut_at, texts, first_field}
 
 untrue : (b : Bool) → (b ≡ true → ⊥) → b ≡ false
 untrue true is = absurd (is refl)
@@ -94,6 +94,12 @@ fields_are (b ∷ bs) = ap (λ (fs : List (List ℕ)). if is_byte 32 b then [] �
     same : (t : Bool) (fs : List (List ℕ)) → (if t then [] ∷ fs else onto_first b fs) ≡ (if t then [] ∷ fs else onto_first_part b fs)
     same true fs = refl
     same false fs = onto_same fs
+
+pub first_is : (line front behind : List ℕ) → cut_at 32 line ≡ Some (front, behind) → front ≡ first_field (fields_of line)
+first_is line front behind cut = sym (ap first_field (fields_are line ∙ split_some 32 line front behind cut))
+
+pub whole_is : (line : List ℕ) → cut_at 32 line ≡ None → line ≡ first_field (fields_of line)
+whole_is line cut = sym (ap first_field (fields_are line ∙ split_none 32 line cut))
 
 -- One field more: what is left, behind those that stand already.
 texts_push : (fields : List (Bor (List ℕ))) (field : Bor (List ℕ)) → texts (fields ++ field ∷ []) ≡ texts fields ++ field.now ∷ []

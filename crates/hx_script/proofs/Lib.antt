@@ -3,3 +3,5 @@ pub mod Names
 pub mod LineSteps
 pub mod ScriptSteps
 pub mod MadeSteps
+pub mod DraftSteps
+pub mod TraceSteps

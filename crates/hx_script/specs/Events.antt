@@ -109,6 +109,15 @@ abbrev pub event_in : List (List ℕ) → Actor → List (List ℕ) → Result E
 event_in names actor [] = Err Form
 event_in names actor (word ∷ fields) = deed_in names actor word fields
 
+abbrev pub move_of : List (List ℕ) → Option Actor → List (List ℕ) → Result (Actor × Event) Why
+move_of names None fields = Err Form
+move_of names (Some actor) fields = and_then (event_in names actor fields) (λ event. Ok (actor, event))
+
+-- who did what, by all fields of an event's line
+abbrev pub move_in : List (List ℕ) → List (List ℕ) → Result (Actor × Event) Why
+move_in names [] = Err Form
+move_in names (first ∷ fields) = move_of names (actor_in first) fields
+
 -- only the Closer asks whether the program may end
 abbrev pub IsAskedBy : Actor → Event → Type 0
 IsAskedBy actor Quit = actor ≡ Closer

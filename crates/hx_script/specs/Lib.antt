@@ -5,3 +5,5 @@ pub mod Events
 pub mod Scripts
 pub mod Follows
 pub mod Made
+pub mod Outcomes
+pub mod Traces

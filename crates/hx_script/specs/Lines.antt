@@ -23,6 +23,15 @@ texts fields = map (λ field. field.now) fields
 abbrev pub parts_of : List ℕ → List (List ℕ)
 parts_of bytes = slice_split (is_byte 10) bytes
 
+-- the first field of a line, which says of which kind it is, and those behind it
+abbrev pub first_field : List (List ℕ) → List ℕ
+first_field [] = []
+first_field (field ∷ fields) = field
+
+abbrev pub other_fields : List (List ℕ) → List (List ℕ)
+other_fields [] = []
+other_fields (field ∷ fields) = fields
+
 module _ {S A : Type 0} (line_in : ℕ → S → List ℕ → Result S Why) (end_at : ℕ → S → Reading A) where
   -- What the parts from the line with this number on read as, where the lines before them brought about this state. A last
   -- part that isn't empty is a line that has no end.

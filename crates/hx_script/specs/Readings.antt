@@ -17,6 +17,14 @@ abbrev pub and_then : {A B : Type 0} → Result A Why → (A → Result B Why) �
 and_then (Ok value) next = next value
 and_then (Err why) next = Err why
 
+-- Two parts of a line: that one of them has no form comes first, then the first bad field.
+abbrev pub both : {A B : Type 0} → Result A Why → Result B Why → Result (A × B) Why
+both (Err Form) second = Err Form
+both (Err why) (Err Form) = Err Form
+both (Err why) second = Err why
+both (Ok left) (Err why) = Err why
+both (Ok left) (Ok right) = Ok (left, right)
+
 -- The reasons of a line in their order: a line with no form; then one that isn't allowed at its place; then one too many; then
 -- the first bad field.
 abbrev pub ranked : {A : Type 0} → Result A Why → Bool → Bool → Result A Why

@@ -38,9 +38,10 @@ kind_in field =
 abbrev pub new_name : List (List ℕ) → List ℕ → Result (List ℕ) Why
 new_name names field = if not (is_resource field) then Err Resource else if is_some (place_of field names) then Err Declared else Ok field
 
-abbrev pub file_in : List (List ℕ) → List (List ℕ) → Result (List ℕ) Why
-file_in names (name ∷ []) = new_name names name
-file_in names fields = Err NoForm
+-- a line that has a new name and nothing else
+abbrev pub name_in : List (List ℕ) → List (List ℕ) → Result (List ℕ) Why
+name_in names (name ∷ []) = new_name names name
+name_in names fields = Err NoForm
 
 abbrev pub plant_of : (number text : List ℕ) → Result Plant Why
 plant_of number text = and_then (at_most 127 (number_in number)) (λ file. and_then (text_in text) (λ bytes. Ok (record { file = file; bytes = bytes })))
@@ -99,7 +100,7 @@ with_step script step = record { names = script.names; slots = script.slots; ste
 
 -- What each kind of line makes of the script so far. Declarations and plants stand before all steps.
 abbrev pub file_line : ℕ → Script → List (List ℕ) → Result Script Why
-file_line number script fields = and_then (ranked (file_in script.names fields) (has_steps script) (is_beyond number || has_all_names script)) (λ name. Ok (with_name script name))
+file_line number script fields = and_then (ranked (name_in script.names fields) (has_steps script) (is_beyond number || has_all_names script)) (λ name. Ok (with_name script name))
 
 abbrev pub plant_line : ℕ → Script → List (List ℕ) → Result Script Why
 plant_line number script fields = and_then (ranked (plant_in fields) (has_steps script) (is_beyond number)) (λ plant. Ok (with_plant script plant))

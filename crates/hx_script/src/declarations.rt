@@ -6,7 +6,7 @@ ghost use Rattle.hx_events.specs.Resources.{is_resource};
 ghost use Rattle.hx_script.specs.declared.why.Why.{Why};
 ghost use Rattle.hx_script.specs.Readings.{Answers, ranked};
 ghost use Rattle.hx_script.specs.Lines.{texts};
-ghost use Rattle.hx_script.specs.Scripts.{kind_in, new_name, file_in, plant_of, plant_in, crash_in, restart_in};
+ghost use Rattle.hx_script.specs.Scripts.{kind_in, new_name, name_in, plant_of, plant_in, crash_in, restart_in};
 
 use crate::events::actor_in;
 use crate::fields::is;
@@ -99,8 +99,8 @@ pub fn new_name(alloc: Global, names: &Names, field: &[u8]) -> Result<Bytes, Lin
 }
 
 /// The name that a line declares, by the fields behind its first.
-pub fn file_in(alloc: Global, names: &Names, fields: &[&[u8]]) -> Result<Bytes, LineError>
-    ensures answers { Answers result (file_in names.now (texts fields.now)) }
+pub fn name_in(alloc: Global, names: &Names, fields: &[&[u8]]) -> Result<Bytes, LineError>
+    ensures answers { Answers result (name_in names.now (texts fields.now)) }
     ensures resource { IfOk result (λ name. is_resource name ≡ true) }
     ensures new { IfOk result (λ name. place_of name names.now ≡ None) }
 {

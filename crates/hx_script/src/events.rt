@@ -7,7 +7,7 @@ ghost use Rattle.hx_events.specs.declared.event.Event.TheVariants.{Quit};
 ghost use Rattle.hx_script.specs.Events.{IsAskedBy};
 ghost use Rattle.hx_script.specs.Readings.{Answers};
 ghost use Rattle.hx_script.specs.Lines.{texts};
-ghost use Rattle.hx_script.specs.Events.{actor_in, one_resource, edit_of, edit_in, save_of, save_in, outside_of, outside_in, command_in, vault_in, flush_in, quit_in, closing_in, watch_in, deed_in, event_in};
+ghost use Rattle.hx_script.specs.Events.{actor_in, one_resource, edit_of, edit_in, save_of, save_in, outside_of, outside_in, command_in, vault_in, flush_in, quit_in, closing_in, watch_in, deed_in, event_in, move_in};
 
 use crate::fields::is;
 use crate::values::{number_in, resource_in, text_in};
@@ -29,7 +29,8 @@ pub fn actor_in(field: &[u8]) -> Option<Actor>
     }
 }
 
-fn one_resource(names: &Names, fields: &[&[u8]]) -> Result<ResNo, Why>
+/// The one resource that stands behind a word.
+pub fn one_resource(names: &Names, fields: &[&[u8]]) -> Result<ResNo, Why>
     ensures answers { result ≡ one_resource names.now (texts fields.now) }
     ensures known { IfOk result (λ res. res < length names.now) }
 {
@@ -247,4 +248,19 @@ pub fn event_in(
         [word, rest @ ..] => deed_in(alloc, names, actor, word, rest),
         [] => Err(LineError::Bad(Why::Form)),
     }
+}
+
+/// Who did what, by all fields of an event's line.
+pub fn move_in(alloc: Global, names: &Names, fields: &[&[u8]]) -> Result<(Actor, Event), LineError>
+    ensures answers { Answers result (move_in names.now (texts fields.now)) }
+    ensures known { IfOk result (λ done. IsEventOf names.now done.1) }
+{
+    let [first, rest @ ..] = fields else {
+        return Err(LineError::Bad(Why::Form));
+    };
+    let Some(actor) = actor_in(first) else {
+        return Err(LineError::Bad(Why::Form));
+    };
+    let event = event_in(alloc, names, actor, rest)?;
+    Ok((actor, event))
 }

@@ -4,11 +4,14 @@ ghost use Rattle.std.specs.Prelude.{◌≡◌, ◌<◌, ℕ, bytes_eq, length, t
 ghost use Rattle.hx_events.specs.Fields.{fields_of};
 ghost use Rattle.hx_script.specs.declared.why.Why.{Why};
 ghost use Rattle.hx_script.specs.Readings.{Reads, Refused};
-ghost use Rattle.hx_script.specs.Lines.{cut_at, texts, behind_header};
+ghost use Rattle.hx_script.specs.Lines.{cut_at, texts, behind_header, first_field, other_fields};
 
 use crate::why::{ScriptError, Why};
 use memchr::memchr;
 use std::alloc::AllocError;
+
+/// More fields than a line of a script or a trace has.
+pub const MOST_FIELDS: usize = 8;
 
 /// Whether a field is this word.
 pub fn is(field: &[u8], word: &[u8]) -> bool
@@ -61,4 +64,25 @@ pub fn split_fields<'a>(
         rest = behind;
     }
     Ok(())
+}
+
+/// The first field of a line, or all of it where it has no blank.
+#[tactic(auto, using(crate::proofs::Cuts::first_is, crate::proofs::Cuts::whole_is))]
+pub fn first_field(line: &[u8]) -> &[u8]
+    ensures { result.now ≡ first_field (fields_of line.now) }
+{
+    match cut_at(b' ', line) {
+        Some((field, _)) => field,
+        None => line,
+    }
+}
+
+/// The fields behind the first.
+pub fn other_fields<'a, 'b>(fields: &'b [&'a [u8]]) -> &'b [&'a [u8]]
+    ensures { texts result.now ≡ other_fields (texts fields.now) }
+{
+    match fields {
+        [_, rest @ ..] => rest,
+        [] => fields,
+    }
 }

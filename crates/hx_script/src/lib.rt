@@ -2,15 +2,22 @@
 #![tactic(auto)]
 
 mod declarations;
+mod draft;
 mod events;
 mod fields;
 mod generator;
+mod outcomes;
+mod parts;
 mod reader;
 mod script;
+mod trace;
+mod trace_reader;
 mod values;
 mod why;
 
 pub use generator::made;
 pub use reader::read_script;
 pub use script::{Form, Plant, Script, Step};
+pub use trace::{Trace, TraceLife};
+pub use trace_reader::read_trace;
 pub use why::{ScriptError, Why};

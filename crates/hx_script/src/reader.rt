@@ -7,10 +7,10 @@ ghost use Rattle.hx_script.specs.Lines.{texts, parts_of, lines_over, behind_head
 ghost use Rattle.hx_script.specs.Scripts.{allows, allows_ends, is_beyond, has_steps, has_all_names, has_all_ends, is_ending, file_line, plant_line, event_line, ending_line, line_of_kind, fields_in, line_in, no_lines, script_at_end, script_in, IsWellMade};
 
 use crate::declarations::{
-    Kind, crash_in, file_in, kind_in, plant_in, ranked, restart_in, settled,
+    Kind, crash_in, kind_in, name_in, plant_in, ranked, restart_in, settled,
 };
 use crate::events::event_in;
-use crate::fields::{behind_header, cut_at, split_fields};
+use crate::fields::{MOST_FIELDS, behind_header, cut_at, split_fields};
 use crate::script::{Form, Plant, Script, Step};
 use crate::why::{LineError, ScriptError, Why};
 use hx_events::{Actor, Items, Names};
@@ -27,9 +27,6 @@ const MOST_LINES: u64 = 10_000;
 const MOST_NAMES: usize = 192;
 
 const MOST_ENDS: usize = 31;
-
-// no line has so many
-const MOST_FIELDS: usize = 8;
 
 fn is_beyond(number: u64) -> bool
     ensures { result ≡ is_beyond number }
@@ -111,7 +108,7 @@ impl ScriptReader {
         ensures { Takes result self.new (file_line number self.old (texts fields.now)) }
     {
         let name = ranked(
-            file_in(alloc, &self.names, fields),
+            name_in(alloc, &self.names, fields),
             self.has_steps(),
             is_beyond(number) || self.has_all_names(),
         )?;
