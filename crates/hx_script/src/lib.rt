@@ -1,0 +1,23 @@
+//! Scripts and traces as bytes, read back exactly, and the script that is generated.
+#![tactic(auto)]
+
+mod declarations;
+mod draft;
+mod events;
+mod fields;
+mod generator;
+mod outcomes;
+mod parts;
+mod reader;
+mod script;
+mod trace;
+mod trace_reader;
+mod values;
+mod why;
+
+pub use generator::made;
+pub use reader::read_script;
+pub use script::{Form, Plant, Script, Step};
+pub use trace::{Trace, TraceLife};
+pub use trace_reader::read_trace;
+pub use why::{ScriptError, Why};
