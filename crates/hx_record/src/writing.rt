@@ -23,11 +23,7 @@ fn line_of(alloc: Global, resource: &[u8], meta: &[u8]) -> Result<Vec<u8>, Alloc
 
 /// The first line of a backup of a resource, which is one by `is_resource`: the resource, one blank, the meta object and a line
 /// feed. With any content behind it that isn't too long for the form it reads back as the backup of these.
-pub fn preamble(
-    alloc: Global,
-    resource: &[u8],
-    base: Option<Stat>,
-) -> Result<Vec<u8>, AllocError>
+pub fn preamble(alloc: Global, resource: &[u8], base: Option<Stat>) -> Result<Vec<u8>, AllocError>
     requires { IsTrue (is_resource resource.now) }
     ensures text { IfOk result (λ bytes. bytes.items ≡ preamble_text resource.now base) }
     ensures short { IfOk result (λ bytes. length bytes.items ≤ 1202) }
