@@ -6,6 +6,7 @@ mod draft;
 mod events;
 mod fields;
 mod generator;
+mod laws;
 mod outcomes;
 mod parts;
 mod reader;
@@ -16,6 +17,7 @@ mod values;
 mod why;
 
 pub use generator::made;
+pub use laws::{a_line_reads_as_its_event, there_is_one_life_more_than_ends};
 pub use reader::read_script;
 pub use script::{Form, Plant, Script, Step};
 pub use trace::{Trace, TraceLife};
