@@ -11,6 +11,8 @@ mod outcomes;
 mod parts;
 mod reader;
 mod script;
+#[cfg(test)]
+mod tests;
 mod trace;
 mod trace_reader;
 mod values;
