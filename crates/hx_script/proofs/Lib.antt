@@ -5,3 +5,5 @@ pub mod ScriptSteps
 pub mod MadeSteps
 pub mod DraftSteps
 pub mod TraceSteps
+pub mod ReadBack
+pub mod LivesCount

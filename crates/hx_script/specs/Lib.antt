@@ -7,3 +7,4 @@ pub mod Follows
 pub mod Made
 pub mod Outcomes
 pub mod Traces
+pub mod Laws

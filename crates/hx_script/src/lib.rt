@@ -6,16 +6,20 @@ mod draft;
 mod events;
 mod fields;
 mod generator;
+mod laws;
 mod outcomes;
 mod parts;
 mod reader;
 mod script;
+#[cfg(test)]
+mod tests;
 mod trace;
 mod trace_reader;
 mod values;
 mod why;
 
 pub use generator::made;
+pub use laws::{a_line_reads_as_its_event, there_is_one_life_more_than_ends};
 pub use reader::read_script;
 pub use script::{Form, Plant, Script, Step};
 pub use trace::{Trace, TraceLife};

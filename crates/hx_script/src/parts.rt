@@ -184,8 +184,8 @@ fn pair_of(
     }
 }
 
-#[tactic(auto, unfolding(crate::specs::Traces::pair_in))]
 /// A pair's number and what it was found to hold.
+#[tactic(auto, unfolding(crate::specs::Traces::pair_in))]
 pub fn pair_in(
     alloc: Global,
     names: &Names,

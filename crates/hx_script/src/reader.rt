@@ -164,7 +164,7 @@ impl ScriptReader {
         Ok(())
     }
 
-    /// The line with this number, which has these fields, at the end of the script so far. After an error it is as before.
+    /// The line with this number, which has these fields, at the end of the script so far.
     fn take(
         &mut self,
         alloc: Global,

@@ -131,8 +131,8 @@ fn outcome_of_text<'a>(
     settled(outcome_in(names, fields))
 }
 
-#[tactic(auto, unfolding(crate::specs::Traces::entry_in))]
 /// An entry of a line: its event, a tab, its outcome.
+#[tactic(auto, unfolding(crate::specs::Traces::entry_in))]
 fn entry_in<'a>(
     alloc: Global,
     names: &Names,
@@ -422,7 +422,7 @@ impl TraceReader {
     }
 }
 
-/// The lines behind the header, and the number of the line that would follow them.
+/// The lines behind the header.
 fn read_lines(alloc: Global, bytes: &[u8]) -> Result<Trace, ScriptError>
     requires { length bytes.now ≤ 67108864 }
     ensures ok { IfOk result (λ trace. lines_over trace_line trace_at_end 2 no_trace (parts_of bytes.now) ≡ Reads trace) }

@@ -27,8 +27,8 @@ pub fn number_up_to(limit: u64, field: &[u8]) -> Result<u64, Why>
     }
 }
 
-#[tactic(auto, using(crate::proofs::Names::place_is_below))]
 /// The number of a resource that was named before.
+#[tactic(auto, using(crate::proofs::Names::place_is_below))]
 pub fn resource_in(names: &Names, field: &[u8]) -> Result<ResNo, Why>
     ensures value { result ≡ resource_in names.now field.now }
     ensures known { IfOk result (λ res. res < length names.now) }
