@@ -1,7 +1,6 @@
 -- What a judge keeps decides as the rules do, and goes with the entries.
-use Rattle.std.specs.Prelude.{◌≡◌, ℕ, zero, suc, ◌+◌, ◌-◌, ◌==◌, ◌<◌, ◌≤◌, nat_lt, not, Bool, true, false, ◌&&◌, ◌||◌, List, [], ◌∷◌, ◌++◌, length, map, count_by, if◌then◌else◌, Option, Some, None, is_none, is_some, slice_get, slice_index_or, refl}
+use Rattle.std.specs.Prelude.{◌≡◌, ℕ, zero, suc, ◌+◌, ◌-◌, ◌==◌, ◌<◌, ◌≤◌, not, Bool, true, false, ◌&&◌, ◌||◌, List, [], ◌∷◌, length, count_by, if◌then◌else◌, Option, Some, None, slice_get, refl}
 use Rattle.std.proofs.Common.{ap, sym, ◌∙◌, subst, arith, cond}
-use Rattle.std.proofs.lemmas.Bool.Decides.{nat_tests}
 use Rattle.std.proofs.lemmas.Option.{slice_get_within}
 use Rattle.std.proofs.lemmas.List.{length-map}
 use Rattle.std.proofs.Math.ListN.{set}
@@ -12,10 +11,10 @@ use Rattle.hx_events.specs.declared.event.Event.TheVariants.{Act, Vault, Flush, 
 use Rattle.hx_events.specs.declared.life.Entry.{Entry}
 use Rattle.hx_events.specs.declared.outcome.Outcome.{Outcome}
 use Rattle.hx_events.specs.Texts.{name_of}
-use Rattle.hx_rules.specs.Entries.{Deed, deed, own, is_of}
+use Rattle.hx_rules.specs.Entries.{own}
 use Rattle.hx_rules.specs.Copies.{dirty}
-use Rattle.hx_rules.specs.Backups.{Snapshot, backed, done}
-use Rattle.hx_rules.specs.Versions.{last_version, adds_version}
+use Rattle.hx_rules.specs.Backups.{done}
+use Rattle.hx_rules.specs.Versions.{last_version}
 use Rattle.hx_rules.specs.Legal.{Opening, opening_of, restored_at, found_backup, is_barred, count_below, lowest, lowest_from, holds_at, no_pair_free, lacks_pair, is_unsafe, is_row, quit_row, is_spent, was_spent}
 use Rattle.hx_rules_laws.specs.Frames.{adds_deed, leaves_others, same_number}
 use Rattle.hx_report.specs.Outlines.{named}

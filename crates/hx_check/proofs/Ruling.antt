@@ -1,6 +1,6 @@
 -- What a sketch allows is what the rules allow.
-use Rattle.std.specs.Prelude.{◌≡◌, ℕ, zero, suc, ◌+◌, ◌-◌, ◌==◌, ◌<◌, ◌≤◌, ◌^◌, nat_lt, not, Bool, true, false, ◌&&◌, ◌||◌, List, [], ◌∷◌, length, if◌then◌else◌, Option, Some, None, is_some, option_map, refl}
-use Rattle.std.proofs.Common.{ap, sym, ◌∙◌, subst, arith, cond, lit<}
+use Rattle.std.specs.Prelude.{◌≡◌, ℕ, ◌+◌, ◌-◌, ◌==◌, ◌<◌, ◌≤◌, ◌^◌, nat_lt, not, Bool, true, false, ◌&&◌, ◌||◌, List, length, if◌then◌else◌, Option, Some, None, option_map, refl}
+use Rattle.std.proofs.Common.{ap, sym, ◌∙◌, arith, lit<}
 use Rattle.std.proofs.lemmas.Bool.Decides.{nat_tests}
 use Rattle.hx_events.specs.declared.backup.TheConstants.{CONTENT_MAX}
 use Rattle.hx_events.specs.declared.backup.Backup.{Backup}
@@ -11,19 +11,18 @@ use Rattle.hx_events.specs.declared.event.Stage.TheVariants.{Prepare, Body, Open
 use Rattle.hx_events.specs.declared.life.Entry.{Entry}
 use Rattle.hx_events.specs.declared.outcome.Outcome.{Outcome}
 use Rattle.hx_events.specs.declared.outcome.Outcome.TheVariants.{Edited}
-use Rattle.hx_events.specs.Texts.{resource_of}
 use Rattle.hx_rules.specs.declared.saves.Running.{Running}
-use Rattle.hx_rules.specs.Entries.{Deed, own, is_of}
-use Rattle.hx_rules.specs.Versions.{last_version, last_content, versions, trail, can_undo, can_redo}
+use Rattle.hx_rules.specs.Entries.{Deed, own}
+use Rattle.hx_rules.specs.Versions.{last_version, versions}
 use Rattle.hx_rules.specs.Copies.{registered, dirty, kept, is_number}
-use Rattle.hx_rules.specs.Saves.{running, save_steps, asked_by}
-use Rattle.hx_rules.specs.Backups.{Begun, Snapshot, begun, blocks_of, done, backed, held, wanted, opened, halted, faded, write_failed, safe}
-use Rattle.hx_rules.specs.Due.{VaultWork, SaveWork, Check, Write, vault_work, first_of, work_if, next_work, next_stage, due_vault, due_save, save_work, running_version, may_discard}
-use Rattle.hx_rules.specs.Legal.{Opening, restored_at, is_row, open_row, create_row, edit_row, vault_row, flush_row, is_over, lacks_pair, was_spent, deletes_past, grows_past, vault_due, save_due}
-use Rattle.hx_report.specs.Outlines.{named, outline}
+use Rattle.hx_rules.specs.Saves.{running, save_steps}
+use Rattle.hx_rules.specs.Backups.{Begun, Snapshot, begun, blocks_of, done, opened, halted, faded, safe}
+use Rattle.hx_rules.specs.Due.{Check, Write, vault_work, first_of, work_if, next_work, due_vault, due_save, save_work, running_version}
+use Rattle.hx_rules.specs.Legal.{Opening, restored_at, is_row, open_row, create_row, edit_row, vault_row, flush_row, is_over, lacks_pair, was_spent, deletes_past, grows_past, vault_due}
+use Rattle.hx_report.specs.Outlines.{named}
 use Rattle.hx_report.specs.Tails.{version_of}
 use Rattle.hx_check.specs.Sizes.{sizes_of, size_at}
-use Rattle.hx_check.specs.Sketches.{FitsSize, anew_in, backing_work, due_in, edited_size, is_backed, is_dirty_in, row_in, save_due_in, short, sketch}
+use Rattle.hx_check.specs.Sketches.{FitsSize, backing_work, due_in, edited_size, row_in, save_due_in, short, sketch}
 use Rattle.hx_check.specs.Judging.{takes_pair}
 use Rattle.hx_check.proofs.Sizing.{last_size}
 

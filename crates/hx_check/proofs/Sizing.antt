@@ -1,5 +1,5 @@
 -- The sizes that are kept are those of the versions.
-use Rattle.std.specs.Prelude.{◌≡◌, ℕ, zero, suc, ◌+◌, ◌==◌, ◌<◌, ◌≤◌, Bool, true, false, List, [], ◌∷◌, ◌++◌, length, get_or, if◌then◌else◌, Option, Some, None, refl}
+use Rattle.std.specs.Prelude.{◌≡◌, ℕ, zero, suc, ◌+◌, ◌==◌, Bool, true, false, List, [], ◌∷◌, ◌++◌, length, get_or, if◌then◌else◌, Option, refl}
 use Rattle.std.proofs.Common.{ap, sym, ◌∙◌, arith, cond, length-append}
 use Rattle.std.proofs.lemmas.Bool.Decides.{nat_tests}
 use Rattle.hx_events.specs.declared.backup.Backup.{Backup}
@@ -9,7 +9,7 @@ use Rattle.hx_events.specs.declared.event.Event.TheVariants.{Act}
 use Rattle.hx_events.specs.declared.outcome.Outcome.{Outcome}
 use Rattle.hx_events.specs.declared.outcome.Outcome.TheVariants.{Opened, Created, Edited, Undone, Redone, Reverted}
 use Rattle.hx_rules.specs.Entries.{Deed, deed}
-use Rattle.hx_rules.specs.Versions.{Version, version, version_at, versions, versions_after, last_version, last_content, alternative, edited}
+use Rattle.hx_rules.specs.Versions.{Version, version, version_at, versions, last_version, last_content, alternative, edited}
 use Rattle.hx_rules_laws.specs.TrailLaws.{last_version_counts}
 use Rattle.hx_check.specs.Sizes.{sizes_of, size_at}
 use Rattle.hx_check.specs.Sketches.{edited_size, sizes_after}

@@ -1,22 +1,20 @@
 -- A sketch goes with the deeds of its resource.
-use Rattle.std.specs.Prelude.{◌≡◌, ℕ, ◌+◌, ◌-◌, not, Bool, true, false, ◌&&◌, ◌||◌, List, [], ◌∷◌, ◌++◌, length, if◌then◌else◌, Option, Some, None, option_map, refl}
-use Rattle.std.proofs.Common.{ap, sym, ◌∙◌, arith, cond}
+use Rattle.std.specs.Prelude.{◌≡◌, ℕ, ◌+◌, ◌-◌, Bool, true, false, ◌||◌, List, [], ◌∷◌, if◌then◌else◌, Option, Some, None, option_map, refl}
+use Rattle.std.proofs.Common.{ap, sym, ◌∙◌, arith}
 use Rattle.hx_events.specs.declared.backup.Backup.{Backup}
 use Rattle.hx_events.specs.declared.event.Command.TheVariants.{Save}
 use Rattle.hx_events.specs.declared.event.Event.{Event}
 use Rattle.hx_events.specs.declared.event.Event.TheVariants.{Act}
 use Rattle.hx_events.specs.declared.event.Stage.TheVariants.{Prepare, Body, Open as OpenGate}
 use Rattle.hx_events.specs.declared.outcome.Outcome.{Outcome}
-use Rattle.hx_events.specs.declared.outcome.Outcome.TheVariants.{Joined, Clean, Queued, Started, Checked, Modified, CheckFault, Saved, WriteFault, Unguarded, StageOk, StageFault}
-use Rattle.hx_rules.specs.declared.saves.Running.{Running}
-use Rattle.hx_rules.specs.declared.saves.QueuedSave.{QueuedSave}
+use Rattle.hx_events.specs.declared.outcome.Outcome.TheVariants.{Joined, Clean, Queued, Started, StageOk, StageFault}
 use Rattle.hx_rules.specs.declared.saves.Asked.TheVariants.{Joined as SaidJoined, Clean as SaidClean, Queued as SaidQueued, Started as SaidStarted}
 use Rattle.hx_rules.specs.Entries.{Deed, deed}
-use Rattle.hx_rules.specs.Versions.{version_at, versions, last_version, alternative}
+use Rattle.hx_rules.specs.Versions.{version_at, versions, last_version}
 use Rattle.hx_rules.specs.Copies.{kept, dirty}
 use Rattle.hx_rules.specs.Saves.{SaveStep, running, queued, asks, steps_after, save_steps}
-use Rattle.hx_rules.specs.Backups.{Begun, begun, begun_of, begun_after, prepared, snapshot, blocks_of, opened, halted, faded, one_block_more}
-use Rattle.hx_report.specs.Outlines.{outline, outline_after}
+use Rattle.hx_rules.specs.Backups.{Begun, begun, begun_after, prepared, blocks_of, opened, halted, faded, one_block_more}
+use Rattle.hx_report.specs.Outlines.{outline}
 use Rattle.hx_report.proofs.Outlining.{outline_step}
 use Rattle.hx_check.specs.Sizes.{sizes_of, size_at}
 use Rattle.hx_check.specs.Sketches.{backing, backing_after, first_sketch, one_block_less, run_after, short, sketch, sketch_of, sketch_after, sketch_with}

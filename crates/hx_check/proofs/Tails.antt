@@ -1,5 +1,5 @@
 -- Lines against a text, and what a verdict says.
-use Rattle.std.specs.Prelude.{◌≡◌, ℕ, zero, suc, ◌+◌, ◌-◌, ◌==◌, ◌<◌, ◌≤◌, nat_lt, Bool, true, false, ◌&&◌, List, [], ◌∷◌, ◌++◌, length, take, drop, get_or, reverse, bytes_eq, if◌then◌else◌, Option, Some, None, slice_get, refl}
+use Rattle.std.specs.Prelude.{◌≡◌, ℕ, zero, suc, ◌+◌, ◌==◌, ◌<◌, ◌≤◌, nat_lt, Bool, true, false, ◌&&◌, List, [], ◌∷◌, ◌++◌, length, take, drop, get_or, reverse, bytes_eq, if◌then◌else◌, Option, Some, None, slice_get, refl}
 use Rattle.std.proofs.Common.{ap, sym, ◌∙◌, subst, arith, cond, append_assoc, append-nil, length-append}
 use Rattle.std.proofs.lemmas.Bool.Decides.{nat_tests}
 use Rattle.std.proofs.lemmas.List.{reverse-append, take-append-drop}
@@ -12,7 +12,7 @@ use Rattle.hx_report.specs.Tails.{tail_text}
 use Rattle.hx_script.specs.declared.trace.Trace.{Trace}
 use Rattle.hx_script.specs.declared.trace.TraceLife.{TraceLife}
 use Rattle.hx_check.specs.declared.verdict.Verdict.{Verdict}
-use Rattle.hx_check.specs.declared.verdict.Verdict.TheVariants.{Legal, NotAt}
+use Rattle.hx_check.specs.declared.verdict.Verdict.TheVariants.{Legal}
 use Rattle.hx_check.specs.Verdicts.{AreLegal, bad_entry, bad_in_life, bad_in_lives, bad_line, first_bad, goes_on, joined, plain_opening, verdict_by, verdict_on}
 
 -- ---- lines

@@ -1,5 +1,5 @@
 -- What a judge keeps of a life.
-use Rattle.std.specs.Prelude.{◌≡◌, ℕ, ◌+◌, ◌≤◌, not, Bool, true, false, ◌&&◌, List, [], ◌∷◌, length, Option, Some, None, slice_get}
+use Rattle.std.specs.Prelude.{◌≡◌, ℕ, ◌≤◌, not, Bool, true, false, ◌&&◌, List, length, Option, Some, None, slice_get}
 use Rattle.hx_events.specs.declared.event.Command.TheVariants.{Open, Create}
 use Rattle.hx_events.specs.declared.event.Event.{Event}
 use Rattle.hx_events.specs.declared.event.Event.TheVariants.{Act}

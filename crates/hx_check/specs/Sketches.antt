@@ -1,6 +1,6 @@
 -- What is kept of each resource while a history is judged entry by entry. A sketch is an outline with what decides which outcomes
 -- come next: of contents it has the sizes alone.
-use Rattle.std.specs.Prelude.{◌≡◌, ℕ, zero, suc, ◌+◌, ◌-◌, ◌<◌, ◌^◌, nat_lt, not, Bool, true, false, ◌&&◌, ◌||◌, List, [], ◌∷◌, ◌++◌, length, get_or, if◌then◌else◌, Option, Some, None, is_some, option_map}
+use Rattle.std.specs.Prelude.{ℕ, ◌+◌, ◌-◌, ◌<◌, ◌^◌, nat_lt, not, Bool, true, false, ◌&&◌, ◌||◌, List, [], ◌∷◌, length, if◌then◌else◌, Option, Some, None, is_some, option_map}
 use Rattle.hx_etag.specs.declared.stat.Stat.{Stat}
 use Rattle.hx_events.specs.declared.backup.Backup.{Backup}
 use Rattle.hx_events.specs.declared.event.Command.TheVariants.{Open, Create, Edit, Undo, Redo, Save, Revert, Close, Outside}
@@ -8,12 +8,12 @@ use Rattle.hx_events.specs.declared.event.Event.{Event}
 use Rattle.hx_events.specs.declared.event.Event.TheVariants.{Act, Vault, Flush, Quit}
 use Rattle.hx_events.specs.declared.event.Stage.TheVariants.{Prepare, Body, Open as OpenGate, Fade, Drop}
 use Rattle.hx_events.specs.declared.outcome.Outcome.{Outcome}
-use Rattle.hx_events.specs.declared.outcome.Outcome.TheVariants.{Opened, Created, Edited, Undone, Redone, Reverted, Started, Checked, Modified, CheckFault, Saved, WriteFault, Unguarded, StageOk, StageFault}
+use Rattle.hx_events.specs.declared.outcome.Outcome.TheVariants.{Opened, Created, Edited, Undone, Redone, Reverted, Started, Checked, StageOk, StageFault}
 use Rattle.hx_rules.specs.declared.saves.Running.{Running}
 use Rattle.hx_rules.specs.declared.saves.QueuedSave.{QueuedSave}
 use Rattle.hx_rules.specs.declared.saves.Asked.TheVariants.{Started as SaidStarted}
 use Rattle.hx_rules.specs.Entries.{Deed}
-use Rattle.hx_rules.specs.Versions.{Version, versions, trail, trail_after, at_place, can_undo, can_redo}
+use Rattle.hx_rules.specs.Versions.{versions, at_place, can_undo, can_redo}
 use Rattle.hx_rules.specs.Copies.{kept, kept_after, is_number}
 use Rattle.hx_rules.specs.Saves.{running, save_steps, asked_by, run_asked, run_checked, run_finished}
 use Rattle.hx_rules.specs.Backups.{Begun, begun, blocks_of, opened, opened_after, halted, halted_after, faded, faded_after}

@@ -1,6 +1,6 @@
 -- What is said of a trace: it is legal, or it isn't at this line. Each life stands for itself and is judged by the rules of a
 -- life that isn't guarded; what the device answered is taken as given where the rules leave it to the device.
-use Rattle.std.specs.Prelude.{◌≡◌, ℕ, ◌+◌, ◌≤◌, Bool, true, false, ◌&&◌, List, [], ◌∷◌, ◌++◌, length, drop, take, bytes_eq, if◌then◌else◌, Option, Some, None}
+use Rattle.std.specs.Prelude.{◌≡◌, ℕ, ◌+◌, ◌≤◌, Bool, true, false, List, [], ◌∷◌, ◌++◌, length, drop, take, bytes_eq, if◌then◌else◌, Option, Some, None}
 use Rattle.hx_events.specs.declared.life.Entry.{Entry}
 use Rattle.hx_events.specs.declared.life.Life.{Life}
 use Rattle.hx_rules.specs.Entries.{past}

@@ -1,4 +1,4 @@
-use Rattle.std.proofs.Common.{◌≡◌, ◌<◌, ◌+◌, List, ◌∷◌, true, get_or, take, drop, length, refl, sym, ap, ◌∙◌, subst, rules, arith}
+use Rattle.std.proofs.Common.{◌≡◌, ◌<◌, ◌+◌, List, true, get_or, take, drop, length, refl, sym, ap, ◌∙◌, subst, rules, arith}
 use Rattle.hx_events.specs.declared.life.Entry.{Entry}
 use Rattle.hx_rules.specs.Entries.{past}
 use Rattle.hx_rules.specs.Legal.{is_row}

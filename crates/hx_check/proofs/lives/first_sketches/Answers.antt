@@ -1,4 +1,4 @@
-use Rattle.std.proofs.Common.{◌≡◌, ◌+◌, ◌++◌, ◌∷◌, [], ℕ, List, Some, slice_get, length, ap, sym, ◌∙◌, subst, arith, ⊎_elim, length-append}
+use Rattle.std.proofs.Common.{◌≡◌, ◌∷◌, [], ℕ, List, Some, slice_get, length, ap, sym, ◌∙◌, subst, arith, ⊎_elim, length-append}
 use Rattle.hx_events.specs.Texts.{name_of}
 use Rattle.hx_rules.specs.Legal.{found_backup}
 use Rattle.hx_report.proofs.Walking.{push_get, name_is}

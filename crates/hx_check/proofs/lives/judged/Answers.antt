@@ -1,7 +1,6 @@
-use Rattle.std.proofs.Common.{◌≡◌, ◌∷◌, ◌+◌, List, Some, None, [], sym, ap, ◌∙◌, drop}
+use Rattle.std.proofs.Common.{◌+◌, Some, None, sym, ◌∙◌, drop}
 use Rattle.std.proofs.lemmas.List.{at_drop_all}
 use Rattle.hx_report.proofs.Walking.{drop_next}
-use Rattle.hx_script.specs.declared.trace.TraceLife.{TraceLife}
 use Rattle.hx_check.specs.Verdicts.{bad_in_lives}
 use Rattle.hx_check.proofs.Tails.{life_is_bad, verdict_is}
 use Rattle.hx_check.proofs.lives.judged.Goals as goal

@@ -1,11 +1,11 @@
-use Rattle.std.proofs.Common.{◌≡◌, ◌<◌, ◌+◌, ◌||◌, ℕ, List, Some, slice_get, length, refl, sym, ap, ◌∙◌, subst}
+use Rattle.std.proofs.Common.{◌≡◌, ◌<◌, ◌+◌, ◌||◌, ℕ, Some, slice_get, length, refl, sym, ap, ◌∙◌, subst}
 use Rattle.std.proofs.lemmas.Option.{slice_get_read}
 use Rattle.hx_rules.specs.Versions.{adds_version}
 use Rattle.hx_rules.specs.Legal.{is_spent}
 use Rattle.hx_report.specs.Outlines.{named}
 use Rattle.hx_check.specs.declared.sketch.Sketch.{Sketch}
 use Rattle.hx_check.specs.declared.judge.Judge.{Judge}
-use Rattle.hx_check.specs.Judging.{AreUpTo, IsJudged}
+use Rattle.hx_check.specs.Judging.{AreUpTo}
 use Rattle.hx_check.specs.Sketches.{sketch_after}
 use Rattle.hx_check.proofs.Judgements.{judged_more, judged_past, up_to_more, up_to_later}
 use Rattle.hx_check.proofs.judge.Judge.note.Goals as goal
