@@ -1,0 +1,5 @@
+pub mod Sizing
+pub mod Sketching
+pub mod Ruling
+pub mod Judgements
+pub mod Tails

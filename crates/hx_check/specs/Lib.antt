@@ -1,0 +1,4 @@
+pub mod Verdicts
+pub mod Sizes
+pub mod Sketches
+pub mod Judging
