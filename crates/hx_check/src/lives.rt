@@ -102,21 +102,10 @@ fn first_sketches(
 {
     let mut sketches = Vec::with_capacity(alloc, names.len())?;
     for place in 0..names.len() {
-        let name = names.text(numbered(place)?);
+        let name = names.text(ResNo::new(place as u32));
         sketches.push(Sketch::first(alloc, found_backup(name, base))?)?;
     }
     Ok(sketches)
-}
-
-// The number of the name at this place. Lists of names have at most 256, which their type keeps to itself.
-fn numbered(place: usize) -> Result<ResNo, AllocError>
-    ensures { IfOk result (λ res. res ≡ place) }
-{
-    if place < 256 {
-        Ok(ResNo::new(place as u32))
-    } else {
-        Err(AllocError)
-    }
 }
 
 // The lowest pair's backup of the resource.

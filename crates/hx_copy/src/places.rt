@@ -21,7 +21,10 @@ fn move_tail(content: &mut Vec<u8>, tail: usize, seam: usize)
             unreachable!()
         };
     }
-    content.copy_within(tail..end, seam);
+    // where the text is as long as what it replaces, nothing has to move
+    if tail != seam {
+        content.copy_within(tail..end, seam);
+    }
     content.truncate(len);
 }
 

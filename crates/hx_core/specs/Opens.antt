@@ -5,22 +5,8 @@ use Rattle.hx_events.specs.declared.backup.Backup.{Backup}
 use Rattle.hx_events.specs.declared.backup.PairFound.{PairFound}
 use Rattle.hx_events.specs.declared.backup.PairFound.TheVariants.{Found}
 use Rattle.hx_events.specs.Places.{place_of}
-use Rattle.hx_rules.specs.Legal.{found_backup}
+use Rattle.hx_rules.specs.Legal.{found_backup, with_name, with_restored}
 use Rattle.hx_resource.specs.Kept.{ResourceState, kept_at_first}
-
-abbrev pub named_at : Option ℕ → List ℕ → List (List ℕ) → List (List ℕ)
-named_at None resource names = names ++ resource ∷ []
-named_at (Some c) resource names = names
-
--- the names with the resource behind, where it isn't among them
-abbrev pub with_name : List ℕ → List (List ℕ) → List (List ℕ)
-with_name resource names = named_at (place_of resource names) resource names
-
--- the names with the resources of the found backups behind that aren't among them, in the order of their pairs
-abbrev pub with_restored : List (List ℕ) → List PairFound → List (List ℕ)
-with_restored names [] = names
-with_restored names (Found b side ∷ pairs) = with_restored (with_name b.resource names) pairs
-with_restored names (_ ∷ pairs) = with_restored names pairs
 
 -- what each of the names was restored with
 abbrev pub restored_of : List (List ℕ) → List PairFound → List (Option Backup)

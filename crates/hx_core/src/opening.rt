@@ -2,9 +2,9 @@
 
 ghost use Rattle.std.specs.Prelude.{◌≡◌, ◌+◌, ◌<◌, ◌≤◌, ◌∷◌, ◌++◌, [], Some, None, length, count_by, option_map, bytes_eq, IfOk, OnOk};
 ghost use Rattle.hx_events.specs.Places.{place_of};
-ghost use Rattle.hx_rules.specs.Legal.{found_backup, is_barred, opening_of};
+ghost use Rattle.hx_rules.specs.Legal.{found_backup, is_barred, opening_of, with_name, with_restored};
 ghost use Rattle.hx_resource.specs.Kept.{kept_at_first};
-ghost use Rattle.hx_core.specs.Opens.{AreFirst, ArePlaced, first_of, restored_of, with_name, with_restored};
+ghost use Rattle.hx_core.specs.Opens.{AreFirst, ArePlaced, first_of, restored_of};
 
 use crate::machine::Core;
 use hx_backups::Backups;

@@ -2,7 +2,6 @@
 
 ghost use Rattle.std.specs.Prelude.{◌≡◌, ℕ, OnOk, ◌+◌, ◌<◌, ◌≤◌, ◌^◌, ◌∷◌, ◌++◌, ◌||◌, ◌&&◌, [], true, length, Some, None};
 ghost use Rattle.hx_events.specs.declared.event.Event.TheVariants.{Act};
-ghost use Rattle.hx_events.specs.Texts.{resource_of};
 ghost use Rattle.hx_events.specs.declared.life.Entry.{Entry};
 ghost use Rattle.hx_rules.specs.Entries.{past};
 ghost use Rattle.hx_rules.specs.Legal.{is_row, is_spent, is_unsafe, lacks_pair, lowest, quit_row};
@@ -247,26 +246,10 @@ pub(crate) fn named(event: &Event) -> Option<ResNo>
     ensures { result ≡ named event.now }
 {
     match event {
-        Event::Act(command) => Some(resource_of(command)),
+        Event::Act(command) => Some(command.resource()),
         Event::Vault(res) => Some(*res),
         Event::Flush(res) => Some(*res),
         Event::Quit => None,
-    }
-}
-
-fn resource_of(command: &Command) -> ResNo
-    ensures { result ≡ resource_of command.now }
-{
-    match command {
-        Command::Open(res)
-        | Command::Create(res)
-        | Command::Undo(res)
-        | Command::Redo(res)
-        | Command::Revert(res)
-        | Command::Close(res) => *res,
-        Command::Edit { res, .. } => *res,
-        Command::Save { res, .. } => *res,
-        Command::Outside { res, .. } => *res,
     }
 }
 

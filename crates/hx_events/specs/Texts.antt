@@ -10,6 +10,7 @@ use Rattle.hx_events.specs.declared.event.Event.{Event}
 use Rattle.hx_events.specs.declared.event.Event.TheVariants.{Act, Vault, Flush, Quit}
 use Rattle.hx_events.specs.declared.event.Stage.{Stage}
 use Rattle.hx_events.specs.declared.event.Stage.TheVariants.{Prepare, Body, Open as OpenGate, Fade, Drop}
+use Rattle.hx_events.specs.declared.life.Entry.{Entry}
 use Rattle.hx_events.specs.declared.outcome.Outcome.{Outcome}
 use Rattle.hx_events.specs.declared.outcome.Outcome.TheVariants.{Opened, Created, Edited, Undone, Redone, Joined, Clean, Queued, Started, Reverted, Closed, Written, Missing, NoPair, AlreadyOpen, NotOpen, OutOfContent, TooLarge, NoUndo, NoRedo, Saving, Fault, Idle, Spent, StageOk, StageFault, Checked, Modified, CheckFault, Saved, WriteFault, Unguarded, Quit as MayQuit, Vetoed}
 
@@ -45,6 +46,10 @@ IsEventOf names Quit = Unit {0}
 abbrev pub IsOutcomeOf : List (List ℕ) → Outcome → Type 0
 IsOutcomeOf names (Vetoed c) = c < length names
 IsOutcomeOf names _ = Unit {0}
+
+-- The resources that the entry's event and outcome name are among these names.
+abbrev pub IsEntryOf : List (List ℕ) → Entry → Type 0
+IsEntryOf names e = IsEventOf names e.event × IsOutcomeOf names e.outcome
 
 -- who brought it about: `w0`, `b0`, `s0`, `q`, `v0`
 abbrev pub actor_text : Actor → List ℕ

@@ -1,5 +1,8 @@
 //! What may happen in a life, and by whom.
 
+ghost use Rattle.std.specs.Prelude.{◌≡◌};
+ghost use Rattle.hx_events.specs.Texts.{resource_of};
+
 use crate::{Bytes, ResNo};
 
 /// Who brought an event about.
@@ -52,6 +55,25 @@ pub enum Command {
         mtime: u64,
         text: Bytes,
     },
+}
+
+impl Command {
+    /// The resource that the command names.
+    pub fn resource(&self) -> ResNo
+        ensures { result ≡ resource_of self.now }
+    {
+        match self {
+            Command::Open(res)
+            | Command::Create(res)
+            | Command::Undo(res)
+            | Command::Redo(res)
+            | Command::Revert(res)
+            | Command::Close(res) => *res,
+            Command::Edit { res, .. } => *res,
+            Command::Save { res, .. } => *res,
+            Command::Outside { res, .. } => *res,
+        }
+    }
 }
 
 /// One step of a life.

@@ -1,7 +1,7 @@
 //! The resources of a life, by number.
 
-ghost use Rattle.std.specs.Prelude.{◌≡◌, ◌<◌, ◌++◌, [], ◌∷◌, length, map, IfOk, IfErr, OnErr, Option, Some, None, IsNone, slice_get};
-ghost use Rattle.hx_events.specs.Places.{place_of, texts_of};
+ghost use Rattle.std.specs.Prelude.{◌≡◌, ◌<◌, ◌≤◌, ◌++◌, [], ◌∷◌, length, map, IfOk, IfErr, OnErr, Option, Some, None, IsNone, slice_get};
+ghost use Rattle.hx_events.specs.Places.{IsDistinct, place_of, texts_of};
 
 use crate::ResNo;
 use indexmap::IndexSet;
@@ -34,8 +34,11 @@ impl Names {
         }
     }
 
+    /// How many resources there are: at most 256, no two of them the same.
     pub fn len(&self) -> usize
-        ensures { result ≡ length self.now }
+        ensures count { result ≡ length self.now }
+        ensures at_most { length self.now ≤ 256 }
+        ensures distinct { IsDistinct self.now }
     {
         self.set.len()
     }

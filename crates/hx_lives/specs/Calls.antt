@@ -7,11 +7,11 @@ use Rattle.hx_events.specs.declared.life.Ended.TheVariants.{Crash, Cut}
 use Rattle.hx_events.specs.declared.life.Entry.{Entry}
 use Rattle.hx_events.specs.declared.outcome.Outcome.{Outcome}
 use Rattle.hx_rules.specs.Interleavings.{is_end, are_closing}
-use Rattle.hx_rules.specs.Legal.{is_quiet, is_row}
+use Rattle.hx_rules.specs.Legal.{is_quiet, is_row, with_restored}
 use Rattle.hx_lives.specs.Course.{Course, start_of, Past, with_entry, opening, last_moment, last_faults}
 use Rattle.hx_lives.specs.Holds.{LifeHolds}
 use Rattle.hx_lives.specs.Chained.{IsOpened}
-use Rattle.hx_lives.specs.Names.{with_strangers, is_quiet_before_quit}
+use Rattle.hx_lives.specs.Quiet.{is_quiet_before_quit}
 use Rattle.hx_lives.specs.State.{RegistryState}
 
 -- with these entries more, the newest first
@@ -26,7 +26,7 @@ pub record HasGoneOn {D : Type 0} (time : D → ℕ) (past : D → Past) (failur
 
 -- A vault was opened on the disk: a life begins, over the declared names and the restored ones.
 pub record Begins {D : Type 0} (time : D → ℕ) (failures : D → ℕ) (declared : List (List ℕ)) (disk : D) (r : RegistryState D) : Type 0 where
-  pub named : r.course.names ≡ with_strangers declared r.course.base
+  pub named : r.course.names ≡ with_restored declared r.course.base
   pub plain : r.course.guarded ≡ false
   pub empty : r.course.entries ≡ []
   pub moment : r.course.moment ≡ time r.disk

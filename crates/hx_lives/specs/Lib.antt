@@ -1,5 +1,5 @@
 pub mod Course
-pub mod Names
+pub mod Quiet
 pub mod Caused
 pub mod Told
 pub mod CrashSafe

@@ -1,4 +1,3 @@
-pub mod Limits
 pub mod OpenLives
 pub mod Asking
 pub mod Given

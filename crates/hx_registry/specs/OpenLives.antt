@@ -15,7 +15,7 @@ use Rattle.hx_rules_laws.specs.Frames.{newest_first}
 use Rattle.hx_rules_laws.specs.Sizes.{AreWhole, IsWholeEntry}
 use Rattle.hx_lives.specs.Calls.{AddsEntry}
 use Rattle.hx_lives.specs.Course.{Course, opening, with_entry}
-use Rattle.hx_registry.specs.Limits.{IsShortBackup}
+use Rattle.hx_rules_laws.specs.Limits.{IsShortBackup}
 
 -- a life so far, and the core that keeps it
 pub record OpenLifeState : Type 0 where

@@ -33,7 +33,7 @@ impl<D: Disk> Parts<D> {
         ensures kept { RegistryInvariant D.tells D.time D.past D.now D.failures self.new.life.course self.new.vault self.new.held.items self.new.disk }
         ensures runs { HasGoneOn D.time D.past D.failures self.old.disk self.new.disk }
     {
-        let res = resource_of(&command);
+        let res = command.resource();
         let event = Event::Act(command);
         self.life.reserve(&event, 0)?;
         match self.life.ask(&event) {
@@ -189,22 +189,5 @@ impl<D: Disk> Parts<D> {
     {
         self.life.reserve(&Event::Quit, 0)?;
         Ok(self.rest(Actor::Closer, Event::Quit, Got::Nothing))
-    }
-}
-
-// The resource that the command names.
-fn resource_of(command: &Command) -> ResNo
-    ensures { result ≡ resource_of command.now }
-{
-    match command {
-        Command::Open(res)
-        | Command::Create(res)
-        | Command::Undo(res)
-        | Command::Redo(res)
-        | Command::Revert(res)
-        | Command::Close(res) => *res,
-        Command::Edit { res, .. } => *res,
-        Command::Save { res, .. } => *res,
-        Command::Outside { res, .. } => *res,
     }
 }

@@ -17,7 +17,7 @@ ghost use Rattle.hx_rules.specs.Versions.{version_at, versions};
 ghost use Rattle.hx_rules_laws.specs.Sizes.{AreWhole};
 ghost use Rattle.hx_lives.specs.Calls.{AddsEntry};
 ghost use Rattle.hx_lives.specs.Course.{course_of, opening, with_entry};
-ghost use Rattle.hx_registry.specs.Limits.{IsShortBackup};
+ghost use Rattle.hx_rules_laws.specs.Limits.{IsShortBackup};
 ghost use Rattle.hx_registry.specs.OpenLives.{entry_by};
 
 use hx_core::{Asked, BegunBackup, Core, Got};

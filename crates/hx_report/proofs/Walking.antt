@@ -6,7 +6,8 @@ use Rattle.std.proofs.lemmas.List.{reverse-append, length-reverse}
 use Rattle.hx_events.specs.declared.life.Entry.{Entry}
 use Rattle.hx_events.specs.Texts.{name_of}
 use Rattle.hx_rules.specs.Entries.{past}
-use Rattle.hx_report.specs.Traces.{AreEntriesOf, IsEntryOf, name_lines}
+use Rattle.hx_events.specs.Texts.{IsEntryOf}
+use Rattle.hx_report.specs.Traces.{AreEntriesOf, name_lines}
 
 pub past_more : (h : List Entry) (i : ℕ) (e : Entry) → i < length h → e ≡ get_or h i e → past (take (i + 1) h) ≡ e ∷ past (take i h)
 past_more h i e lt is =

@@ -6,14 +6,10 @@ use Rattle.hx_events.specs.declared.life.Ended.{Ended}
 use Rattle.hx_events.specs.declared.life.Ended.TheVariants.{Script, Restart, Crash, Cut}
 use Rattle.hx_events.specs.declared.life.Entry.{Entry}
 use Rattle.hx_events.specs.declared.life.Life.{Life}
-use Rattle.hx_events.specs.Texts.{spaced, text_field, found_fields, line_text, outcome_line, IsEventOf, IsOutcomeOf}
+use Rattle.hx_events.specs.Texts.{spaced, text_field, found_fields, line_text, outcome_line, IsEntryOf}
 use Rattle.hx_report.specs.Tails.{tail_text}
 
--- The resources that the entry's event and outcome name are among these names.
-abbrev pub IsEntryOf : List (List ℕ) → Entry → Type 0
-IsEntryOf names e = IsEventOf names e.event × IsOutcomeOf names e.outcome
-
--- the same of each entry
+-- The resources that these entries name are among these names.
 abbrev pub AreEntriesOf : List (List ℕ) → List Entry → Type 0
 AreEntriesOf names [] = Unit {0}
 AreEntriesOf names (e ∷ es) = IsEntryOf names e × AreEntriesOf names es

@@ -9,7 +9,7 @@ ghost use Rattle.hx_report.specs.Outlines.{answer_at, line_of_outline, outline_l
 use crate::outline::Outline;
 use crate::put::{put_field, put_number};
 use crate::share::{Share, answer_by};
-use crate::tally::{Tally, Ticket, numbered};
+use crate::tally::{Tally, Ticket};
 use hx_events::{Life, Names, ResNo};
 use hx_rules::SaveAnswer;
 use std::alloc::{AllocError, Global};
@@ -39,7 +39,7 @@ fn put_copies(out: &mut Vec<u8>, names: &Names, outlines: &[Outline]) -> Result<
     ensures { OnOk result (out.new.items ≡ out.old.items ++ outline_lines names.now outlines.now (length names.now)) }
 {
     for place in 0..names.len() {
-        put_outline(out, names.text(numbered(place)?), &outlines[place])?;
+        put_outline(out, names.text(ResNo::new(place as u32)), &outlines[place])?;
     }
     Ok(())
 }

@@ -1,6 +1,6 @@
 ghost use Rattle.std.specs.Prelude.{◌≡◌, ◌+◌, ◌<◌, ◌^◌, ◌++◌, ℕ, [], ◌∷◌, length, List, Some, is_some, slice_get, IfOk, OnOk};
 ghost use Rattle.hx_events.specs.declared.life.Entry.{Entry};
-ghost use Rattle.hx_events.specs.Texts.{resource_of, name_of};
+ghost use Rattle.hx_events.specs.Texts.{name_of};
 ghost use Rattle.hx_rules.specs.Entries.{past};
 ghost use Rattle.hx_rules.specs.Legal.{Opening, count_below, found_backup};
 ghost use Rattle.hx_report.specs.Traces.{AreEntriesOf, IsWhole};
@@ -9,7 +9,7 @@ ghost use Rattle.hx_report.specs.Outlines.{AreUpTo, IsTallied, dirty_in, first_o
 
 use crate::outline::Outline;
 use crate::share::{Share, share_by};
-use hx_events::{Command, Entry, Event, Life, Names, Outcome, PairFound, ResNo};
+use hx_events::{Entry, Event, Life, Names, Outcome, PairFound, ResNo};
 use std::alloc::{AllocError, Global};
 
 /// A request to save that found its copy open.
@@ -123,7 +123,7 @@ fn first_outlines(
 {
     let mut outlines = Vec::with_capacity(alloc, names.len())?;
     for place in 0..names.len() {
-        let name = names.text(numbered(place)?);
+        let name = names.text(ResNo::new(place as u32));
         outlines.push(Outline::first(alloc, is_restored(name, base))?)?;
     }
     Ok(outlines)
@@ -143,42 +143,15 @@ fn is_restored(resource: &[u8], base: &[PairFound]) -> bool
     false
 }
 
-// The number of the name at this place. Lists of names have at most 256, which their type keeps to itself.
-pub(crate) fn numbered(place: usize) -> Result<ResNo, AllocError>
-    ensures { IfOk result (λ res. res ≡ place) }
-{
-    if place < 256 {
-        Ok(ResNo::new(place as u32))
-    } else {
-        Err(AllocError)
-    }
-}
-
 /// The resource that the event is of, if it is of one.
 pub fn named(event: &Event) -> Option<ResNo>
     ensures { result ≡ named event.now }
 {
     match event {
-        Event::Act(command) => Some(resource_of(command)),
+        Event::Act(command) => Some(command.resource()),
         Event::Vault(res) => Some(*res),
         Event::Flush(res) => Some(*res),
         Event::Quit => None,
-    }
-}
-
-fn resource_of(command: &Command) -> ResNo
-    ensures { result ≡ resource_of command.now }
-{
-    match command {
-        Command::Open(res)
-        | Command::Create(res)
-        | Command::Undo(res)
-        | Command::Redo(res)
-        | Command::Revert(res)
-        | Command::Close(res) => *res,
-        Command::Edit { res, .. } => *res,
-        Command::Save { res, .. } => *res,
-        Command::Outside { res, .. } => *res,
     }
 }
 

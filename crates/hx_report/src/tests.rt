@@ -1,6 +1,6 @@
 ghost use Rattle.std.specs.Prelude.{◌≡◌, ◌<◌, true, length};
-ghost use Rattle.hx_events.specs.Texts.{IsEventOf, IsOutcomeOf};
-ghost use Rattle.hx_report.specs.Traces.{AreEntriesOf, AreWhole, IsEntryOf, IsWhole};
+ghost use Rattle.hx_events.specs.Texts.{IsEntryOf, IsEventOf, IsOutcomeOf};
+ghost use Rattle.hx_report.specs.Traces.{AreEntriesOf, AreWhole, IsWhole};
 
 use crate::{out, pairs, summary, tail};
 use hx_etag::Stat;

@@ -1,14 +1,14 @@
 //! The whole text of lives.
 
 ghost use Rattle.std.specs.Prelude.{◌≡◌, ◌++◌, [], ◌∷◌, ℕ, codes, decimal, IfOk, OnOk};
-ghost use Rattle.hx_report.specs.Traces.{AreEntriesOf, AreWhole, IsEntryOf, IsWhole, end_line, entry_line, entry_lines, life_text, name_lines, trace_text, whole_life};
+ghost use Rattle.hx_events.specs.Texts.{IsEntryOf};
+ghost use Rattle.hx_report.specs.Traces.{AreEntriesOf, AreWhole, IsWhole, end_line, entry_line, entry_lines, life_text, name_lines, trace_text, whole_life};
 
 use crate::events::{put_line, put_outcome};
 use crate::pair_lines::put_pairs;
 use crate::put::put_decimal;
 use crate::tail_lines::put_tail;
-use crate::tally::numbered;
-use hx_events::{Ended, Entry, Life, Names};
+use hx_events::{Ended, Entry, Life, Names, ResNo};
 use std::alloc::{AllocError, Global};
 
 /// The trace of these lives, which are numbered from 1: of each its names, pairs, entries and tail. A life that was cut for
@@ -58,7 +58,7 @@ fn put_names(out: &mut Vec<u8>, names: &Names) -> Result<(), AllocError>
 {
     for place in 0..names.len() {
         out.extend_from_slice(b"name ")?;
-        out.extend_from_slice(names.text(numbered(place)?))?;
+        out.extend_from_slice(names.text(ResNo::new(place as u32)))?;
         out.push(b'\n')?;
     }
     Ok(())

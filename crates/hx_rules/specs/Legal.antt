@@ -1,7 +1,7 @@
 -- Which histories are legal. A history is read newest first. Each row says of one kind of event which outcomes it may
 -- have after the entries before it: the refusals stand in their order, and where the disk decides, any of its answers
 -- that the rules know.
-use Rattle.std.specs.Prelude.{ℕ, zero, suc, ◌+◌, ◌-◌, ◌==◌, nat_le, nat_lt, not, Bool, true, false, ◌&&◌, ◌||◌, List, [], ◌∷◌, length, map, count_by, bytes_eq, if◌then◌else◌, Option, Some, None, is_none, is_some, slice_index_or}
+use Rattle.std.specs.Prelude.{ℕ, zero, suc, ◌+◌, ◌-◌, ◌==◌, nat_le, nat_lt, not, Bool, true, false, ◌&&◌, ◌||◌, List, [], ◌∷◌, ◌++◌, length, map, count_by, bytes_eq, if◌then◌else◌, Option, Some, None, is_none, is_some, slice_index_or}
 use Rattle.hx_etag.specs.declared.stat.Stat.{Stat}
 use Rattle.hx_events.specs.declared.backup.TheConstants.{CONTENT_MAX}
 use Rattle.hx_events.specs.declared.backup.Backup.{Backup}
@@ -15,6 +15,7 @@ use Rattle.hx_events.specs.declared.event.Stage.TheVariants.{Prepare, Body, Open
 use Rattle.hx_events.specs.declared.life.Entry.{Entry}
 use Rattle.hx_events.specs.declared.outcome.Outcome.{Outcome}
 use Rattle.hx_events.specs.declared.outcome.Outcome.TheVariants.{Opened, Created, Edited, Undone, Redone, Joined, Clean, Queued, Started, Reverted, Closed, Written, Missing, NoPair, AlreadyOpen, NotOpen, OutOfContent, TooLarge, NoUndo, NoRedo, Saving, Fault, Idle, Spent, StageOk, StageFault, Checked, Modified, CheckFault, Saved, WriteFault, Unguarded, Quit as MayQuit, Vetoed}
+use Rattle.hx_events.specs.Places.{place_of}
 use Rattle.hx_rules.specs.declared.saves.Asked.{Asked}
 use Rattle.hx_rules.specs.declared.saves.Asked.TheVariants.{Joined as SaidJoined, Clean as SaidClean, Queued as SaidQueued, Started as SaidStarted}
 use Rattle.hx_rules.specs.declared.saves.Running.{Running}
@@ -48,6 +49,17 @@ is_barred _ = false
 -- what a life with these names begins with, where these pairs were found
 abbrev pub opening_of : List (List ℕ) → List PairFound → Bool → Opening
 opening_of names pairs guarded = record { restored = map (λ name. found_backup name pairs) names; barred = count_by is_barred pairs; guarded = guarded }
+
+-- the names with the resource behind, where it isn't among them
+abbrev pub with_name : List ℕ → List (List ℕ) → List (List ℕ)
+with_name resource names = if is_some (place_of resource names) then names else names ++ resource ∷ []
+
+-- The names of a life: those that were declared, and behind them the resources of the found backups that aren't among them,
+-- in the order of their pairs. The order is this project's own.
+abbrev pub with_restored : List (List ℕ) → List PairFound → List (List ℕ)
+with_restored names [] = names
+with_restored names (Found b side ∷ pairs) = with_restored (with_name b.resource names) pairs
+with_restored names (_ ∷ pairs) = with_restored names pairs
 
 -- The backup that the resource c was restored with, if it was. A number past the life's resources has none; no entry of a
 -- life names one.

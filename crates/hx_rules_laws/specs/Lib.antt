@@ -18,3 +18,4 @@ pub mod Taken
 pub mod DueStages
 pub mod Holding
 pub mod Sized
+pub mod Limits

@@ -1,5 +1,6 @@
 ghost use Rattle.hx_rules_laws.specs.Kept.{KeepsLastOfGreatest};
 ghost use Rattle.hx_rules_laws.specs.Sizes.{SizesAreLengths};
+ghost use Rattle.hx_rules_laws.specs.Limits.{ContentsAreShort};
 ghost use Rattle.hx_rules_laws.specs.Trails.{LastVersionCounts, TrailsChange};
 ghost use Rattle.hx_rules_laws.specs.Copies.{CopiesChange, TrailIsWithinVersions};
 
@@ -27,4 +28,10 @@ pub fn what_each_outcome_does_to_a_copy()
 /// After a legal history that kept what was read, the size of each version is the length of its content.
 pub fn sizes_are_the_lengths_of_contents()
     ensures { SizesAreLengths }
+{}
+
+/// After a legal history that kept what was read, no version is longer than a content may be, where no longer one was
+/// restored.
+pub fn no_content_is_past_the_limit()
+    ensures { ContentsAreShort }
 {}

@@ -13,7 +13,8 @@ pub use backups::{
 };
 pub use copies::{
     a_copy_keeps_the_last_stat_of_the_greatest_time, how_versions_and_trail_grow,
-    sizes_are_the_lengths_of_contents, what_each_outcome_does_to_a_copy,
+    no_content_is_past_the_limit, sizes_are_the_lengths_of_contents,
+    what_each_outcome_does_to_a_copy,
 };
 pub use entries::a_history_grows_by_one_entry;
 pub use marks::{

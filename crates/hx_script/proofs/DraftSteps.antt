@@ -8,7 +8,8 @@ use Rattle.hx_events.specs.declared.life.Ended.{Ended}
 use Rattle.hx_events.specs.declared.life.Ended.TheVariants.{Script}
 use Rattle.hx_events.specs.declared.life.Entry.{Entry}
 use Rattle.hx_events.specs.Resources.{is_resource}
-use Rattle.hx_script.specs.Traces.{no_pairs, drafted, IsFoundOf, IsEntryOf, IsWellRead}
+use Rattle.hx_events.specs.Texts.{IsEntryOf}
+use Rattle.hx_script.specs.Traces.{no_pairs, drafted, IsFoundOf, IsWellRead}
 
 nothing : {X : Type 0} (P : X → Type 0) (xs : List X) → xs ≡ [] → All P xs
 nothing P xs none = subst (All P) (sym none) (λ k d lt. absurd (omega (arith, lt)))

@@ -9,8 +9,9 @@ use Rattle.hx_events.specs.declared.life.Ended.TheVariants.{Script, Restart, Cra
 use Rattle.hx_events.specs.declared.life.Entry.{Entry}
 use Rattle.hx_events.specs.declared.life.Life.{Life}
 use Rattle.hx_rules.specs.Interleavings.{is_end, are_closing}
+use Rattle.hx_rules.specs.Legal.{with_restored}
 use Rattle.hx_lives.specs.Course.{Course, course_of, opening}
-use Rattle.hx_lives.specs.Names.{with_strangers, is_quiet_before_quit}
+use Rattle.hx_lives.specs.Quiet.{is_quiet_before_quit}
 use Rattle.hx_script.specs.declared.script.Step.{Step}
 use Rattle.hx_script.specs.declared.script.Step.TheVariants.{Do, Crash as CrashStep, Restart as RestartStep}
 
@@ -64,7 +65,7 @@ HasDone Cut c asked = ⊥
 pub record HasFollowed (guarded : Bool) (declared : List (List ℕ)) (ended : Ended) (asked : List Move) (life : Life) : Type 0 where
   pub ended_so : life.ended ≡ ended
   pub guarded_so : life.guarded ≡ guarded
-  pub named : life.names ≡ with_strangers declared life.base
+  pub named : life.names ≡ with_restored declared life.base
   pub done : HasDone ended (course_of life) asked
 
 -- The lives that these steps have ended: one for each crash and each restart, ended as its step says.
@@ -113,7 +114,7 @@ pub record StopsInLife (guarded : Bool) (declared : List (List ℕ)) (steps : Li
   pub whole : lives ≡ cut ∷ earlier
   pub ended_so : cut.ended ≡ Cut
   pub guarded_so : cut.guarded ≡ guarded
-  pub named : cut.names ≡ with_strangers declared cut.base
+  pub named : cut.names ≡ with_restored declared cut.base
   pub done : IsCutOff (closes_before rest) (course_of cut) (moves_asked (reverse taken))
   pub ended : HaveEnded guarded declared (reverse taken) earlier
 

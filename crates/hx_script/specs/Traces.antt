@@ -12,7 +12,7 @@ use Rattle.hx_events.specs.declared.life.Entry.{Entry}
 use Rattle.hx_events.specs.declared.outcome.Outcome.{Outcome}
 use Rattle.hx_events.specs.Places.{place_of}
 use Rattle.hx_events.specs.Resources.{is_resource}
-use Rattle.hx_events.specs.Texts.{IsEventOf, IsOutcomeOf}
+use Rattle.hx_events.specs.Texts.{IsEntryOf}
 use Rattle.hx_events.specs.Fields.{fields_of}
 use Rattle.hx_script.specs.declared.trace.TraceLife.{TraceLife}
 use Rattle.hx_script.specs.declared.trace.Trace.{Trace}
@@ -296,9 +296,6 @@ trace_in bytes =
 abbrev pub IsFoundOf : List (List ℕ) → PairFound → Type 0
 IsFoundOf names (Found backup side) = is_some (place_of backup.resource names) ≡ true
 IsFoundOf names found = Unit {0}
-
-abbrev pub IsEntryOf : List (List ℕ) → Entry → Type 0
-IsEntryOf names e = IsEventOf names e.event × IsOutcomeOf names e.outcome
 
 -- What holds of each life of a trace: it is of its own names, has 64 pairs, isn't guarded, and its lines are numbered within
 -- the limit.

@@ -3,7 +3,8 @@
 ghost use Rattle.std.specs.Prelude.{◌≡◌, ◌≤◌, ◌<◌, [], length, true, false, IfOk, OnOk, OnErr, None, IsTrue};
 ghost use Rattle.hx_events.specs.Places.{place_of};
 ghost use Rattle.hx_events.specs.Resources.{is_resource};
-ghost use Rattle.hx_script.specs.Traces.{no_pairs, new_life, named_life, paired_life, longer_life, ended_life, tailed_life, IsFoundOf, IsEntryOf, IsWellRead};
+ghost use Rattle.hx_events.specs.Texts.{IsEntryOf};
+ghost use Rattle.hx_script.specs.Traces.{no_pairs, new_life, named_life, paired_life, longer_life, ended_life, tailed_life, IsFoundOf, IsWellRead};
 
 use crate::trace::TraceLife;
 use hx_events::{Bytes, Ended, Entry, Items, Life, Names, PairFound};

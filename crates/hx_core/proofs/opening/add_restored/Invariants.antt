@@ -1,5 +1,5 @@
 use Rattle.std.proofs.Common.{◌≡◌, drop}
-use Rattle.hx_core.specs.Opens.{with_restored}
+use Rattle.hx_rules.specs.Legal.{with_restored}
 use Rattle.hx_core.proofs.opening.add_restored.Given as goal
 
 abbrev pub invariant-loop-pair : goal.invariant-loop-pair

@@ -4,7 +4,7 @@ use Rattle.hx_rules.specs.Backups.{begun}
 use Rattle.hx_rules.specs.Entries.{own}
 use Rattle.hx_rules.specs.Legal.{restored_at}
 use Rattle.hx_lives.specs.Course.{Course, opening}
-use Rattle.hx_registry.specs.Limits.{begun_is_short, begun_has_few}
+use Rattle.hx_rules_laws.specs.Limits.{begun_is_short, begun_has_few}
 use Rattle.hx_registry.specs.OpenLives.{each_begun}
 use Rattle.hx_registry.proofs.life.OpenLife.begun.Goals as goal
 

@@ -14,7 +14,7 @@ use Rattle.hx_pairs.specs.Entry.{invariant_rested}
 use Rattle.hx_pairs.specs.Registries.{RegistryInvariant}
 use Rattle.hx_pairs.specs.StageEvents.{open_invariant, open_failed_invariant}
 use Rattle.hx_registry.specs.Given.{fits_done, stage_done, stage_failed}
-use Rattle.hx_registry.specs.Limits.{begun_is_sized}
+use Rattle.hx_rules_laws.specs.Limits.{begun_is_sized}
 use Rattle.hx_registry.specs.OpenLives.{entry_by}
 use Rattle.hx_registry.specs.Stages.{due_asks}
 use Rattle.hx_registry.proofs.parts.Parts.open.Goals as goal

@@ -98,6 +98,9 @@ contents_are_short o es c v legal whole short =
     let few = at_short v (versions (restored_at o c) (own c es)) (versions_short o es c legal short) in
     omega (arith, sized, few)
 
+abbrev pub ContentsAreShort : Type 0
+ContentsAreShort = (o : Opening) (es : List Entry) (c v : ℕ) → is_legal o es ≡ true → AreWhole es → IsShortBackup (restored_at o c) → length (version_at v (versions (restored_at o c) (own c es))).content ≤ CONTENT_MAX
+
 -- So is that of a backup that is begun.
 pub begun_is_short : (o : Opening) (es : List Entry) (c : ℕ) (b : Begun) → is_legal o es ≡ true → AreWhole es → IsShortBackup (restored_at o c) → begun (restored_at o c) o.guarded (own c es) ≡ Some b → length b.snapshot.content ≤ CONTENT_MAX
 begun_is_short o es c b legal whole short is =
