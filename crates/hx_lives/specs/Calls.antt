@@ -1,5 +1,5 @@
 -- What the calls of a registry do to the life and to the disk.
-use Rattle.std.specs.Prelude.{◌≡◌, ◌≤◌, ℕ, Bool, true, false, IsTrue, List, [], ◌++◌, Result, Ok, Err}
+use Rattle.std.specs.Prelude.{◌≡◌, ◌≤◌, ℕ, ◌+◌, ◌*◌, Bool, true, false, IsTrue, if◌then◌else◌, List, [], ◌∷◌, ◌++◌, length, Option, Some, None, Result, Ok, Err}
 use Rattle.hx_events.specs.declared.event.Actor.{Actor}
 use Rattle.hx_events.specs.declared.event.Event.{Event}
 use Rattle.hx_events.specs.declared.life.Ended.{Ended}
@@ -10,7 +10,7 @@ use Rattle.hx_rules.specs.Interleavings.{is_end, are_closing}
 use Rattle.hx_rules.specs.Legal.{is_quiet, is_row, with_restored}
 use Rattle.hx_lives.specs.Course.{Course, start_of, Past, with_entry, opening, last_moment, last_faults}
 use Rattle.hx_lives.specs.Holds.{LifeHolds}
-use Rattle.hx_lives.specs.Chained.{IsOpened}
+use Rattle.hx_lives.specs.Chained.{IsOpened, OnlySyncs}
 use Rattle.hx_lives.specs.Quiet.{is_quiet_before_quit}
 use Rattle.hx_lives.specs.State.{RegistryState}
 
@@ -24,14 +24,19 @@ pub record HasGoneOn {D : Type 0} (time : D → ℕ) (past : D → Past) (failur
   pub kept : (t f : ℕ) → t ≤ time old → past new t f ≡ past old t f
   pub no_fewer : failures old ≤ failures new
 
--- A vault was opened on the disk: a life begins, over the declared names and the restored ones.
-pub record Begins {D : Type 0} (time : D → ℕ) (failures : D → ℕ) (declared : List (List ℕ)) (disk : D) (r : RegistryState D) : Type 0 where
+-- A vault was opened on the disk: a life begins, guarded or not, over the declared names and the restored ones.
+pub record Begins {D : Type 0} (time : D → ℕ) (failures : D → ℕ) (guarded : Bool) (declared : List (List ℕ)) (disk : D) (r : RegistryState D) : Type 0 where
   pub named : r.course.names ≡ with_restored declared r.course.base
-  pub plain : r.course.guarded ≡ false
+  pub guarded_so : r.course.guarded ≡ guarded
   pub empty : r.course.entries ≡ []
   pub moment : r.course.moment ≡ time r.disk
   pub no_fewer : failures disk ≤ r.course.faults
   pub counted : r.course.faults ≤ failures r.disk
+
+-- The disk is handed back where no life began: it has gone on, and where it tells its content it did nothing but sync.
+pub record HandsBack {D : Type 0} (tells : Bool) (time : D → ℕ) (past : D → Past) (failures : D → ℕ) (disk back : D) : Type 0 where
+  pub runs : HasGoneOn time past failures disk back
+  pub syncs : IsTrue tells → OnlySyncs (past back) (time disk) (time back)
 
 -- one entry more, of this actor's event, which came to this
 pub record AddsEntry (actor : Actor) (event : Event) (outcome : Outcome) (old new : Course) : Type 0 where
@@ -54,6 +59,20 @@ pub record Settles (old new : Course) : Type 0 where
   pub grown : new ≡ with_entries old stages
   pub close : are_closing (opening old) stages old.entries ≡ true
   pub quiet : is_quiet (opening old) new.entries ≡ true
+
+-- How many of the Closer's stages one resource may want at the end of a life: those of a save and of one that waits, of a
+-- backup that is begun and of one more; in a guarded life also of the backup that a save waits for.
+abbrev pub stages_at_most : Bool → ℕ
+stages_at_most guarded = if guarded then 400 else 263
+
+-- no more entries than that for each resource
+abbrev pub AddsFew : Course → Course → Type 0
+AddsFew old new = length new.entries ≤ length old.entries + stages_at_most old.guarded * length old.names
+
+-- the outcome of the newest entry
+abbrev pub last_outcome : List Entry → Option Outcome
+last_outcome [] = None
+last_outcome (e ∷ es) = Some e.outcome
 
 -- the end of a life more: the Closer's stages until nothing is due, and a question whether the program may end, unless
 -- that was the last entry

@@ -3,7 +3,9 @@
 //! the disk holds and where its faults came from, and that whatever a crash leaves at any moment is allowed.
 #![tactic(auto)]
 
+mod begin;
 mod blocks;
+mod closing;
 mod events;
 mod files;
 mod life;
@@ -11,4 +13,5 @@ mod parts;
 mod registry;
 mod stages;
 
+pub use begin::BeginError;
 pub use registry::Registry;
