@@ -26,7 +26,6 @@ use Rattle.hx_check.specs.Sizes.{sizes_of, size_at, with_size}
 use Rattle.hx_check.specs.declared.sketch.Sketch.{Sketch}
 use Rattle.hx_check.specs.declared.sketch.Backing.{Backing}
 
--- ---- sizes
 -- the size after an edit of a content of this size
 abbrev pub edited_size : Event → ℕ → ℕ
 edited_size (Act (Edit c off del text)) old = old - del + length text
@@ -46,7 +45,6 @@ new_size _ event back old = None
 abbrev pub sizes_after : Outcome → Event → ℕ → ℕ → List ℕ → List ℕ
 sizes_after outcome event place last sizes = with_size (new_size outcome event (size_at place sizes) (size_at last sizes)) sizes
 
--- ---- saves
 abbrev pub run_started : Event → ℕ → Option Running → Option Running
 run_started (Act (Save c force over)) last was = run_asked SaidStarted last over was
 run_started _ last was = was
@@ -64,7 +62,6 @@ run_ended false outcome event last is_dirty queue was = run_by outcome event las
 abbrev pub run_after : Outcome → Event → ℕ → Bool → Option QueuedSave → Option Running → Option Running
 run_after outcome event last is_dirty queue was = run_ended (is_some (ends_save outcome)) outcome event last is_dirty queue was
 
--- ---- a begun backup
 -- its version, and how many blocks are left to write
 abbrev pub backing : ℕ → ℕ → Backing
 backing version left = record { version = version; left = left }
@@ -84,7 +81,6 @@ backing_after (StageFault s v) is_dirty sizes was = None
 backing_after (StageOk Body v) is_dirty sizes was = if is_dirty then one_block_less was else None
 backing_after _ is_dirty sizes was = if is_dirty then was else None
 
--- ---- sketches
 abbrev pub sketch_of : Outline → Option Stat → List ℕ → Option Running → Option Backing → Bool → Bool → Bool → Sketch
 sketch_of outline kept sizes run backing opened halted faded = record { outline = outline; kept = kept; sizes = sizes; run = run; backing = backing; opened = opened; halted = halted; faded = faded }
 
@@ -114,7 +110,6 @@ sketch_with event outcome next x = sketch_of next
 abbrev pub sketch_after : Event → Outcome → Sketch → Sketch
 sketch_after event outcome x = sketch_with event outcome (outline_after event outcome x.outline) x
 
--- ---- rows
 -- the next stage of a begun backup
 abbrev pub backing_work : Option Backing → Option VaultWork
 backing_work None = None

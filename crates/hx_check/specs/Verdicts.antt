@@ -55,7 +55,6 @@ verdict_by (Some number) = NotAt number
 unfoldable pub verdict_on : Trace → Verdict
 verdict_on trace = verdict_by (bad_in_lives trace.lives)
 
--- ---- what a judge may be given
 -- The life's entries name its own resources, and no line has a greater number than a trace's lines and the one behind them.
 pub record IsReadLife (l : TraceLife) : Type 0 where
   pub whole : IsWhole l.life
@@ -66,7 +65,6 @@ abbrev pub AreRead : List TraceLife → Type 0
 AreRead [] = Unit {0}
 AreRead (l ∷ lives) = IsReadLife l × AreRead lives
 
--- ---- what a verdict says
 -- the lines, each with its line feed
 abbrev pub joined : List (List ℕ) → List ℕ
 joined [] = []

@@ -41,7 +41,7 @@ adopted_put (Found backup side) pair = refl
 adopted_put Damaged pair = refl
 adopted_put (Twin q) pair = refl
 
-adopted_by : (f : PairFound) (pair : Pair) → IsAdopted f (adopted f pair)
+pub adopted_by : (f : PairFound) (pair : Pair) → IsAdopted f (adopted f pair)
 adopted_by Empty pair = refl
 adopted_by (Found backup side) pair = (refl, refl)
 adopted_by Damaged pair = refl

@@ -11,6 +11,7 @@ ghost use Rattle.hx_rules.specs.Legal.{lowest_save_due, lowest_vault_due, restor
 ghost use Rattle.hx_lives.specs.Calls.{AddsEntry, HasGoneOn, IsNoCrash, crash_end};
 ghost use Rattle.hx_lives.specs.Chained.{IsLived};
 ghost use Rattle.hx_lives.specs.Course.{course_of, last_faults, opening};
+ghost use Rattle.hx_pairs.specs.Registries.{RegistryInvariant};
 
 use crate::parts::Parts;
 use hx_disk::Disk;
@@ -39,6 +40,13 @@ impl<D: Disk> Model for Registry<D> {
 }
 
 impl<D: Disk> Registry<D> {
+    pub(crate) fn of(parts: Parts<D>) -> Registry<D>
+        requires { RegistryInvariant D.tells D.time D.past D.now D.failures parts.life.course parts.vault parts.held.items parts.disk }
+        ensures { result ≡ record { course = parts.life.course; disk = parts.disk } }
+    {
+        Registry { parts }
+    }
+
     /// Makes one event of this command, and answers its outcome. For want of memory there is no event.
     pub fn command(&mut self, actor: Actor, command: Command) -> Result<Outcome, AllocError>
         requires { resource_of command < length self.old.course.names }

@@ -12,5 +12,5 @@ mod tests;
 mod value;
 
 pub use laws::what_a_restart_finds_of_a_resource;
-pub use restoring::restored;
+pub use restoring::{pair_with, restored};
 pub use value::PairValue;

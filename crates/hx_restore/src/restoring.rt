@@ -104,7 +104,8 @@ fn place_with(found: &[PairFound], resource: &[u8]) -> Option<usize>
     found.iter().position(|found| is_found_of(found, resource))
 }
 
-fn earlier_with(found: &[PairFound], resource: &[u8]) -> Option<PairNo>
+/// The lowest of these pairs in which a backup of this resource was found, or none exactly where none was.
+pub fn pair_with(found: &[PairFound], resource: &[u8]) -> Option<PairNo>
     requires { length found.now ≤ 64 }
     ensures { result ≡ position (is_found_of resource.now) found.now }
 {
@@ -120,7 +121,7 @@ fn twin_of(value: &PairValue, earlier: &[PairFound]) -> Option<PairNo>
     ensures { result ≡ twin_in earlier.now value.now }
 {
     match value {
-        PairValue::Held(backup, _) => earlier_with(earlier, backup.resource.as_slice()),
+        PairValue::Held(backup, _) => pair_with(earlier, backup.resource.as_slice()),
         PairValue::Nothing | PairValue::Broken => None,
     }
 }

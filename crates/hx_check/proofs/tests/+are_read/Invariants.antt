@@ -1,5 +1,0 @@
-use Rattle.std.proofs.Common.{length}
-use Rattle.hx_check.proofs.tests.+are_read.Given as goal
-
-abbrev pub decreases-are_read : goal.decreases-are_read
-decreases-are_read l = length l.lives.now

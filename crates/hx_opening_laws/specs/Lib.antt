@@ -1,0 +1,6 @@
+pub mod Names
+pub mod FirstPairs
+pub mod Findings
+pub mod Held
+pub mod Opening
+pub mod Laws
