@@ -54,7 +54,8 @@ made_whole form resource content meta b is h = go (is_own_type form meta.type_id
     go false short within h = absurd cc
     go true false within h = absurd cc
     go true true within h =
-        let e : (record { resource = resource; base = meta.base; content = content } : Backup) ≡ b = cc in
+        let mine : Backup = record { resource = resource; base = meta.base; content = content } in
+        let e : mine ≡ b = cc in
         let most = no_longer (length content) (content_limit form) within in
         let limit = limit_within form in
         subst IsWholeBackup e (record { resource = is; short = omega (arith, most, limit) })
@@ -148,9 +149,9 @@ none_passes test i (suc n) p h from lt = go (λ l past. none_passes test (i + 1)
 no_earlier : (values : ℕ → PairValue) (n p q : ℕ) (b c : Backup) (s t : Side) → IsFoundIn values n p b s → IsFoundIn values n q c t → b.resource ≡ c.resource → p < q → ⊥
 no_earlier values n p q b c s t mine other same lt =
     let first : lowest_from (λ k. holds_for c.resource (values k)) 0 q ≡ None = sym (ap (earlier_of values q) other.held) ∙ other.first in
-    let no : holds_for c.resource (values p) ≡ false = none_passes (λ k. holds_for c.resource (values k)) 0 q p first (omega arith) (omega (arith, lt)) in
-    let yes : holds_for c.resource (values p) ≡ true = ap (holds_for c.resource) mine.held ∙ (bytes_eq-Decides b.resource c.resource).1 same in
-    let e : true ≡ false = sym yes ∙ no in cc
+    let none : holds_for c.resource (values p) ≡ false = none_passes (λ k. holds_for c.resource (values k)) 0 q p first (omega arith) (omega (arith, lt)) in
+    let one : holds_for c.resource (values p) ≡ true = ap (holds_for c.resource) mine.held ∙ (bytes_eq-Decides b.resource c.resource).1 same in
+    let e : true ≡ false = sym one ∙ none in cc
 
 once_in : (values : ℕ → PairValue) (n p q : ℕ) (b c : Backup) (s t : Side) → IsFoundIn values n p b s → IsFoundIn values n q c t → b.resource ≡ c.resource → p ≡ q
 once_in values n p q b c s t mine other same = ⊎_elim

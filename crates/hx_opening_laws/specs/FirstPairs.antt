@@ -100,8 +100,8 @@ none_holds resource i (Found c s ∷ pairs) zero b side h at same = go (bytes_eq
     ap_resource = cc
 
     go : (t : Bool) → t ≡ true → (if t then Some i else position_from (is_found_of resource) (i + 1) pairs) ≡ None → ⊥
-    go true yes h = cc
-    go false yes h = cc
+    go true here h = cc
+    go false here h = cc
 none_holds resource i (Found c s ∷ pairs) (suc p) b side h at same = go (λ l. none_holds resource (i + 1) pairs p b side l at same) (bytes_eq c.resource resource) h
   where
     go : (position_from (is_found_of resource) (i + 1) pairs ≡ None → ⊥) → (t : Bool) → (if t then Some i else position_from (is_found_of resource) (i + 1) pairs) ≡ None → ⊥

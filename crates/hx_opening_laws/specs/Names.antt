@@ -22,8 +22,8 @@ absent r i [] none k lt is = omega (arith, lt)
 absent r i (x ∷ xs) none zero lt is = go (is_named r x) ((bytes_eq-Decides x r).1 is) none
   where
     go : (t : Bool) → t ≡ true → cond t (Some i) (position_from (is_named r) (i + 1) xs) ≡ None → ⊥
-    go true yes none = cc
-    go false yes none = cc
+    go true here none = cc
+    go false here none = cc
 absent r i (x ∷ xs) none (suc k) lt is = go (λ h. absent r (i + 1) xs h k (omega (arith, lt)) is) (is_named r x) none
   where
     go : (position_from (is_named r) (i + 1) xs ≡ None → ⊥) → (t : Bool) → cond t (Some i) (position_from (is_named r) (i + 1) xs) ≡ None → ⊥
@@ -128,7 +128,7 @@ at_end r d (x ∷ xs) zero lt = inl (refl, omega arith)
 at_end r d (x ∷ xs) (suc k) lt = ⊎_elim (λ e. inl (e.0, omega (arith, e.1))) (λ e. inr e) (at_end r d xs k (omega (arith, lt)))
 
 grown_resources : (t : Bool) (r : List ℕ) (names : List (List ℕ)) → is_resource r ≡ true → AreResources names → AreResources (grown t r names)
-grown_resources true r names is are = are
+grown_resources true r names is are k d lt = are k d lt
 grown_resources false r names is are k d lt = ⊎_elim
     (λ e. subst (λ (name : List ℕ). is_resource name ≡ true) (sym e.0) (are k d e.1))
     (λ e. subst (λ (name : List ℕ). is_resource name ≡ true) (sym e) is)

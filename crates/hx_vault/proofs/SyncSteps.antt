@@ -38,12 +38,12 @@ module _ {D : Type 0} (tells : Bool) (moment : D → ℕ) (past : D → ℕ → 
   used_more : (n : ℕ) (a b c : Room) → UsesCalls n a b → UsesCalls 1 b c → UsesCalls (n + 1) a c
   used_more n a b c first second = record { file = second.file ∙ first.file; end = second.end ∙ first.end; calls = omega (arith, first.calls, second.calls); no_more = omega (arith, first.no_more, second.no_more) }
 
-  -- one file more may be synced
-  wider : (n : ℕ) (before : ℕ → FileState) (f : ℕ) (file : FileState) → OnlySynced n before f file → OnlySynced (n + 1) before f file
-  wider n before f file was = record { reading = was.reading; stat = was.stat; no_new = was.no_new; user = λ from. was.user (omega (arith, from)) }
+  -- more files may be synced
+  wider : (n m : ℕ) (before : ℕ → FileState) (f : ℕ) (file : FileState) → n ≤ m → OnlySynced n before f file → OnlySynced m before f file
+  wider n m before f file le was = record { reading = was.reading; stat = was.stat; no_new = was.no_new; user = λ from. was.user (omega (arith, from, le)) }
 
-  all_wider : (n : ℕ) (old new : D) → ThroughAll moment past (OnlySynced n (now old)) old new → ThroughAll moment past (OnlySynced (n + 1) (now old)) old new
-  all_wider n old new through = record { later = through.later; kept = through.kept; each = λ t f from to. wider n (now old) f (past new t f) (through.each t f from to) }
+  pub all_wider : (n m : ℕ) (old new : D) → n ≤ m → ThroughAll moment past (OnlySynced n (now old)) old new → ThroughAll moment past (OnlySynced m (now old)) old new
+  all_wider n m old new le through = record { later = through.later; kept = through.kept; each = λ t f from to. wider n m (now old) f (past new t f) le (through.each t f from to) }
 
   -- what is read of a synced file could have been left before
   settled : (n : ℕ) (old mid new : D) → IsTrue tells → OnlySynced n (now old) n (now mid n) → Synced (now mid n) (now new n) → OnlySynced (n + 1) (now old) n (now new n)
@@ -58,7 +58,7 @@ module _ {D : Type 0} (tells : Bool) (moment : D → ℕ) (past : D → ℕ → 
   each_synced : (n : ℕ) (old mid new : D) → IsTrue tells → ThroughAll moment past (OnlySynced n (now old)) old mid → ((f : ℕ) → f ≢ n → now new f ≡ now mid f) → Synced (now mid n) (now new n) → (f : ℕ) → OnlySynced (n + 1) (now old) f (now new f)
   each_synced n old mid new is so_far others synced = by_file n (λ f. OnlySynced (n + 1) (now old) f (now new f))
       (settled n old mid new is (all_now moment past now present (OnlySynced n (now old)) old mid so_far n) synced)
-      (λ f apart. subst (OnlySynced (n + 1) (now old) f) (sym (others f apart)) (wider n (now old) f (now mid f) (all_now moment past now present (OnlySynced n (now old)) old mid so_far f)))
+      (λ f apart. subst (OnlySynced (n + 1) (now old) f) (sym (others f apart)) (wider n (n + 1) (now old) f (now mid f) (omega arith) (all_now moment past now present (OnlySynced n (now old)) old mid so_far f)))
 
   pub one_synced : (n : ℕ) (old mid new : D) → AreSynced tells moment past now room n old mid → ChangesOnly moment past now n mid new → UsesCalls 1 (room mid) (room new) → (IsTrue tells → Synced (now mid n) (now new n))
       → AreSynced tells moment past now room (n + 1) old new
@@ -66,7 +66,7 @@ module _ {D : Type 0} (tells : Bool) (moment : D → ℕ) (past : D → ℕ → 
     rest = λ is. by_file n (λ f. f < n + 1 → IsAtRest (now new f)) (λ below. (ok is).rest) (λ f apart below. subst IsAtRest (sym (only.others f apart)) (so_far.rest is f (omega (arith, apart, below))));
     readings = λ is. by_file n (λ f. (now new f).reading ≡ (now old f).reading) ((ok is).reading ∙ so_far.readings is n) (λ f apart. ap (λ (s : FileState). s.reading) (only.others f apart) ∙ so_far.readings is f);
     stats = λ is. by_file n (λ f. (now new f).stat ≡ (now old f).stat) ((ok is).stat ∙ so_far.stats is n) (λ f apart. ap (λ (s : FileState). s.stat) (only.others f apart) ∙ so_far.stats is f);
-    each = λ is. all_goes_on moment past now present (OnlySynced (n + 1) (now old)) old mid new (all_wider n old mid (so_far.each is)) only.time (each_synced n old mid new is (so_far.each is) only.others (ok is));
+    each = λ is. all_goes_on moment past now present (OnlySynced (n + 1) (now old)) old mid new (all_wider n (n + 1) old mid (omega arith) (so_far.each is)) only.time (each_synced n old mid new is (so_far.each is) only.others (ok is));
     others = λ f from. only.others f (omega (arith, from)) ∙ so_far.others f (omega (arith, from));
     runs = all_goes_on moment past now present IsSomeState old mid new so_far.runs only.time (λ f. tt);
     room_used = used_more n (room old) (room mid) (room new) so_far.room_used used;
@@ -81,7 +81,7 @@ module _ {D : Type 0} (tells : Bool) (moment : D → ℕ) (past : D → ℕ → 
         same,
         all_goes_on moment past now present IsSomeState old mid new so_far.runs only.time (λ f. tt),
         used_more n (room old) (room mid) (room new) so_far.room_used used,
-        (λ is. all_goes_on moment past now present (OnlySynced (n + 1) (now old)) old mid new (all_wider n old mid (so_far.each is)) only.time
-            (λ f. subst (OnlySynced (n + 1) (now old) f) (sym (same is f)) (wider n (now old) f (now mid f) (all_now moment past now present (OnlySynced n (now old)) old mid (so_far.each is) f)))),
+        (λ is. all_goes_on moment past now present (OnlySynced (n + 1) (now old)) old mid new (all_wider n (n + 1) old mid (omega arith) (so_far.each is)) only.time
+            (λ f. subst (OnlySynced (n + 1) (now old) f) (sym (same is f)) (wider n (n + 1) (now old) f (now mid f) (omega arith) (all_now moment past now present (OnlySynced n (now old)) old mid (so_far.each is) f)))),
         (λ f from. only.others f (omega (arith, from)) ∙ so_far.others f (omega (arith, from))),
       )
