@@ -1,5 +1,5 @@
 -- A core without entries keeps what a core keeps.
-use Rattle.std.specs.Prelude.{ℕ, zero, suc, ◌≡◌, ◌+◌, ◌≤◌, nat_lt, Bool, true, false, ◌&&◌, List, [], ◌∷◌, ◌++◌, take, drop, map, length, Option, Some, None, is_some, slice_get, slice_index_or, refl}
+use Rattle.std.specs.Prelude.{ℕ, zero, suc, ◌≡◌, ◌+◌, ◌≤◌, nat_lt, Bool, true, false, ◌&&◌, if◌then◌else◌, List, [], ◌∷◌, ◌++◌, take, drop, map, length, Option, Some, None, is_some, slice_get, slice_index_or, refl}
 use Rattle.std.proofs.Common.{arith, ap, sym, ◌∙◌, subst, length-append}
 use Rattle.std.proofs.lemmas.List.{length-map}
 use Rattle.hx_events.specs.declared.backup.Backup.{Backup}
@@ -7,23 +7,22 @@ use Rattle.hx_events.specs.declared.backup.PairFound.{PairFound}
 use Rattle.hx_events.specs.declared.backup.PairFound.TheVariants.{Empty, Found, Damaged, Twin}
 use Rattle.hx_events.specs.declared.backup.Side.{Side}
 use Rattle.hx_events.specs.Places.{place_of}
-use Rattle.hx_rules.specs.Legal.{Opening, restored_at, vault_due, save_due}
+use Rattle.hx_rules.specs.Legal.{Opening, restored_at, vault_due, save_due, with_name, with_restored}
 use Rattle.hx_tracker.specs.Index.{has_number}
 use Rattle.hx_resource.specs.Kept.{ResourceState, Kept, kept_at_first}
 use Rattle.hx_resource_laws.specs.Fits.{Fits}
 use Rattle.hx_resource_laws.specs.Starts.{fits_at_first, no_vault_due, no_save_due}
 use Rattle.hx_core.specs.Listed.{ListsDone}
 use Rattle.hx_core.specs.Cores.{IsCore}
-use Rattle.hx_core.specs.Opens.{AreFirst, named_at, with_name, with_restored}
+use Rattle.hx_core.specs.Opens.{AreFirst}
 
--- ---- the names
-name_grows : (place : Option ℕ) (resource : List ℕ) (names : List (List ℕ)) → length names ≤ length (named_at place resource names)
-name_grows None resource names = omega (arith, length-append names (resource ∷ []))
-name_grows (Some c) resource names = omega arith
+name_grows : (known : Bool) (resource : List ℕ) (names : List (List ℕ)) → length names ≤ length (if known then names else names ++ resource ∷ [])
+name_grows true resource names = omega arith
+name_grows false resource names = omega (arith, length-append names (resource ∷ []))
 
 names_grow : (names : List (List ℕ)) (pairs : List PairFound) → length names ≤ length (with_restored names pairs)
 names_grow names [] = omega arith
-names_grow names (Found b side ∷ pairs) = omega (arith, name_grows (place_of b.resource names) b.resource names, names_grow (with_name b.resource names) pairs)
+names_grow names (Found b side ∷ pairs) = omega (arith, name_grows (is_some (place_of b.resource names)) b.resource names, names_grow (with_name b.resource names) pairs)
 names_grow names (Empty ∷ pairs) = names_grow names pairs
 names_grow names (Damaged ∷ pairs) = names_grow names pairs
 names_grow names (Twin p ∷ pairs) = names_grow names pairs
@@ -35,7 +34,6 @@ name_fits names all base rest i bound b side resource is at same le =
     subst (λ (r : List ℕ). length (with_name r all) ≤ bound) (sym is)
     (omega (arith, le, ap length (same ∙ ap (with_restored all) at), names_grow (with_name b.resource all) rest))
 
--- ---- the resources
 pub first_more : (ss : List ResourceState) (rs : List (Option Backup)) (s : ResourceState) (r : Option Backup) → AreFirst ss rs → s.kept ≡ kept_at_first r → AreFirst (ss ++ s ∷ []) (rs ++ r ∷ [])
 first_more [] [] s r are is = (is, tt)
 first_more (x ∷ ss) (y ∷ rs) s r are is = (are.0, first_more ss rs s r are.1 is)
@@ -61,7 +59,6 @@ first_kept (x ∷ ss) (r ∷ rs) are zero s at = let e : x ≡ s = cc in ap (λ 
 first_kept (x ∷ ss) (r ∷ rs) are (suc k) s at = first_kept ss rs are.1 k s at
 first_kept (x ∷ ss) [] are k s at = absurd are
 
--- ---- the indexes
 none_due : {A : Type 0} (b : Bool) (x : Option A) → x ≡ None → false ≡ (b && is_some x)
 none_due true x is = ap is_some (sym is)
 none_due false x is = refl
