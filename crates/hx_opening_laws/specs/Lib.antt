@@ -2,5 +2,5 @@ pub mod Names
 pub mod FirstPairs
 pub mod Findings
 pub mod Held
-pub mod Opening
 pub mod Laws
+pub mod Opening

@@ -1,7 +1,8 @@
 -- The names of a life that begins: no two are the same, each restored resource is among them, and they are few.
-use Rattle.std.specs.Prelude.{◌≡◌, ◌<◌, ◌≤◌, ◌⊎◌, ℕ, zero, suc, ◌+◌, Bool, true, false, cond, is_some, if◌then◌else◌, All, List, [], ◌∷◌, ◌++◌, length, slice_index_or, Option, Some, None, refl}
+use Rattle.std.specs.Prelude.{◌≡◌, ◌<◌, ◌≤◌, ◌⊎◌, ℕ, zero, suc, ◌+◌, Bool, true, false, cond, is_some, if◌then◌else◌, All, List, [], ◌∷◌, ◌++◌, length, take, slice_get, slice_index_or, Option, Some, None, refl}
 use Rattle.std.specs.List.{position_from}
 use Rattle.std.proofs.Common.{sym, ◌∙◌, ap, subst, inl, inr, ⊎_elim, arith}
+use Rattle.std.proofs.lemmas.Option.{get_or_from_slice_get}
 use Rattle.std.proofs.lemmas.Slice.Eq.{bytes_eq-Decides}
 use Rattle.hx_events.specs.declared.backup.Backup.{Backup}
 use Rattle.hx_events.specs.declared.backup.PairFound.{PairFound}
@@ -141,3 +142,28 @@ restored_resources names (Found b side ∷ pairs) are finds = restored_resources
 restored_resources names (Empty ∷ pairs) are finds = restored_resources names pairs are (λ p. finds (suc p))
 restored_resources names (Damaged ∷ pairs) are finds = restored_resources names pairs are (λ p. finds (suc p))
 restored_resources names (Twin q ∷ pairs) are finds = restored_resources names pairs are (λ p. finds (suc p))
+
+-- a resource that none of the first k names is isn't found among them
+new_from : (r : List ℕ) (i : ℕ) (xs : List (List ℕ)) (k : ℕ) → ((j : ℕ) → j < k → j < length xs → name_in xs j ≡ r → ⊥) → position_from (is_named r) i (take k xs) ≡ None
+new_from r i xs zero other = refl
+new_from r i [] (suc k) other = refl
+new_from r i (x ∷ xs) (suc k) other = go (is_named r x) refl (new_from r (i + 1) xs k (λ j lt within same. other (suc j) (omega (arith, lt)) (omega (arith, within)) same))
+  where
+    go : (t : Bool) → is_named r x ≡ t → position_from (is_named r) (i + 1) (take k xs) ≡ None → cond t (Some i) (position_from (is_named r) (i + 1) (take k xs)) ≡ None
+    go true is none = absurd (other 0 (omega arith) (omega arith) ((bytes_eq-Decides x r).0 is))
+    go false is none = none
+
+-- Of distinct names none is among those before it.
+new_name : (names : List (List ℕ)) (k : ℕ) → IsDistinct names → k < length names → place_of (name_in names k) (take k names) ≡ None
+new_name names k distinct within = new_from (name_in names k) 0 names k (λ j lt short same. omega (arith, lt, names_apart names distinct j k short within same))
+
+pub new_text : (names : List (List ℕ)) (k : ℕ) (text : List ℕ) → IsDistinct names → k < length names → slice_get names k ≡ Some text → place_of text (take k names) ≡ None
+new_text names k text distinct within got = ap (λ (r : List ℕ). place_of r (take k names)) (sym (get_or_from_slice_get names k text [] got)) ∙ new_name names k distinct within
+
+pub text_more : (names : List (List ℕ)) (k : ℕ) (text : List ℕ) → slice_get names k ≡ Some text → take k names ++ text ∷ [] ≡ take (k + 1) names
+text_more [] zero text got = absurd cc
+text_more [] (suc k) text got = absurd cc
+text_more (x ∷ xs) zero text got = let e : x ≡ text = cc in ap (λ (y : List ℕ). y ∷ []) (sym e)
+text_more (x ∷ xs) (suc k) text got =
+    let e : suc (k + 1) ≡ suc k + 1 = omega arith in
+    ap (λ (ys : List (List ℕ)). x ∷ ys) (text_more xs k text got) ∙ ap (λ n. take n (x ∷ xs)) e

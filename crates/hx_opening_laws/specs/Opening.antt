@@ -16,16 +16,17 @@ use Rattle.hx_vault.specs.Vaults.{VaultState, pair_at, scanned, scanned_pair, ad
 use Rattle.hx_events.specs.Places.{IsDistinct}
 use Rattle.hx_lives.specs.Calls.{HandsBack, HasGoneOn}
 use Rattle.hx_lives.specs.Chained.{OnlySyncs, ReadsSame}
-use Rattle.hx_lives.specs.Course.{Course, Past, Start}
+use Rattle.hx_lives.specs.Course.{Course, Past, Start, start_of}
 use Rattle.hx_lives.specs.CrashSafe.{found_at}
 use Rattle.hx_lives.specs.Holds.{readings}
 use Rattle.hx_lives.specs.Lasting.{at_once, syncs_joined, syncs_kept}
 use Rattle.hx_pairs.specs.Adopting.{adopted_by, opening_gives_vault}
 use Rattle.hx_pairs.specs.FreePairs.{adopted_is_barred}
 use Rattle.hx_pairs.specs.Opened.{IsAdopted, IsOpenedVault}
-use Rattle.hx_pairs.specs.Registries.{barred_pairs}
+use Rattle.hx_pairs.specs.Registries.{RegistryInvariant, barred_pairs}
 use Rattle.hx_opening_laws.specs.Findings.{AreFindings, found_count}
-use Rattle.hx_opening_laws.specs.Held.{BeginsOver}
+use Rattle.hx_opening_laws.specs.Held.{BeginsOver, held_first}
+use Rattle.hx_opening_laws.specs.Laws.{opens_a_registry}
 
 -- On any disk these are findings of a restart, and each pair is used by what was found in it. On a disk that tells its content
 -- they are what it holds, of each slot file a crash leaves what is read of it and nothing else, and the vault knows the
@@ -108,3 +109,26 @@ module _ {D : Type 0} (tells : Bool) (time : D → ℕ) (past : D → Past) (now
         (syncs_kept (time mid) (time old) (time mid) (past mid) (past new) second.runs.kept first.runs.later (omega arith) (first.syncs is))
         (second.syncs is);
   }
+
+  -- the calls that open a vault, up to the scan
+  pub handed_opened : (old reserved synced scanned : D) → ChangesNothing time past now old reserved → failures reserved ≡ failures old → ThroughAll time past IsSomeState reserved synced
+      → (IsTrue tells → ThroughAll time past (OnlySynced 128 (now reserved)) reserved synced) → failures reserved ≤ failures synced → ChangesNothing time past now synced scanned → failures synced ≤ failures scanned
+      → HandsBack tells time past failures old scanned
+  handed_opened old reserved synced scanned first counts runs each later scan more =
+      handed_joined old synced scanned
+      (handed_joined old reserved synced (handed_still old reserved first (omega (arith, counts))) (handed_synced reserved synced runs each later))
+      (handed_still synced scanned scan more)
+
+  -- A life with no entries over such a vault, begun at the disk's present moment, has all that a registry keeps.
+  pub registry_begun : (declared : List (List ℕ)) (c : Course) (v : VaultState) (disk : D) → IsVaultOpened tells now v c.base disk → c.names ≡ with_restored declared c.base → IsDistinct c.names → c.entries ≡ []
+      → c.moment ≡ time disk → c.faults ≤ failures disk → RegistryInvariant tells time past now failures c v (held_first c) disk
+  registry_begun declared c v disk opened named distinct empty at counts = opens_a_registry tells time past now failures present declared c v disk (begins_over tells now declared c v disk opened named distinct empty) at counts
+      (λ is. opened.vault is (start_of c) refl)
+      (λ is. record {
+        base = opened.base is ∙ ap (λ (files : ℕ → FileState). restored (readings files)) (sym files);
+        settled = λ f below. subst (λ (fs : ℕ → FileState). IsSettled (fs f)) (sym files) (opened.settled is f below);
+      })
+      (λ is. opened.stamp is ∙ ap (λ (files : ℕ → FileState). greatest_stamp (readings files)) (sym files))
+    where
+      files : past disk c.moment ≡ now disk
+      files = ap (past disk) at ∙ fun_ext (present disk)
