@@ -11,7 +11,11 @@ mod files;
 mod life;
 mod parts;
 mod registry;
+#[cfg(test)]
+mod sessions;
 mod stages;
+#[cfg(test)]
+mod tests;
 
 pub use begin::BeginError;
 pub use registry::Registry;
