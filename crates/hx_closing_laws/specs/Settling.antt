@@ -100,8 +100,9 @@ with_stages c old new same closed = record {
 }
 
 -- the stages that were done of the resource that was in hand stand
-pub cut_short : (c r : ℕ) (old mid new : Course) → r ≡ c → HasSettled old c mid → SettlesOne r mid new → AddsStages old new
-cut_short c r old mid new is so_far one =
+pub cut_short : {T E : Type 0} (result : Result T E) (c r : ℕ) (old mid new : Course) → r ≡ c → HasSettled old c mid → SettlesOne r mid new → OnErr result (AddsStages old new)
+cut_short (Ok x) c r old mid new is so_far one = tt
+cut_short (Err e) c r old mid new is so_far one =
     let next : SettlesOne c mid new = subst (λ (k : ℕ). SettlesOne k mid new) is one in
     with_stages c old new (same_on old mid new so_far.same next.stages.same) (closed_on c old mid new so_far.same next.stages so_far.closed)
 
@@ -136,6 +137,9 @@ settled_few n old new all so_far = subst (λ (m : ℕ). length new.entries ≤ l
 module _ {D : Type 0} (time : D → ℕ) (past : D → Past) (failures : D → ℕ) where
   pub stands : (disk : D) → HasGoneOn time past failures disk disk
   stands disk = record { later = omega arith; kept = λ t f le. refl; no_fewer = omega arith }
+
+  pub stays : (old mid new : D) → HasGoneOn time past failures old mid → new ≡ mid → HasGoneOn time past failures old new
+  stays old mid new first same = subst (HasGoneOn time past failures old) (sym same) first
 
   pub goes_on : (old mid new : D) → HasGoneOn time past failures old mid → HasGoneOn time past failures mid new → HasGoneOn time past failures old new
   goes_on old mid new first second = record {
