@@ -106,8 +106,8 @@ quits_before old new settles quit = go settles.stages settles.grown settles.clos
         (third (is_closer e.actor) (not (is_idle e.outcome)) (is_closing_stage (opening old) e.event stages old.entries) (are_closing (opening old) stages old.entries) close))
 
 -- The question was the last entry already.
-pub quits_as_asked : (old new : Course) (outcome : Outcome) → Settles old new → quit_answer new.entries ≡ Some outcome → Quits old new
-quits_as_asked old new outcome settles is = quits_before old new settles (is_asked new.entries outcome is).0
+pub quits_as_asked : (old new : Course) (said : Option Outcome) (outcome : Outcome) → Settles old new → said ≡ quit_answer new.entries → said ≡ Some outcome → Quits old new
+quits_as_asked old new said outcome settles says is = quits_before old new settles (is_asked new.entries outcome (sym says ∙ is)).0
 
 pub answers_as_asked : (es : List Entry) (outcome : Outcome) → quit_answer es ≡ Some outcome → last_outcome es ≡ Some outcome
 answers_as_asked es outcome is = (is_asked es outcome is).1
