@@ -1,5 +1,5 @@
 -- The Closer has few stages to do of one resource.
-use Rattle.std.specs.Prelude.{◌≡◌, ◌≤◌, ℕ, ◌+◌, ◌-◌, ◌==◌, Bool, true, false, List, if◌then◌else◌, Option, Some, None, refl}
+use Rattle.std.specs.Prelude.{◌≡◌, ◌≤◌, ℕ, ◌==◌, Bool, true, false, List, Option, Some, None, refl}
 use Rattle.std.proofs.Common.{arith}
 use Rattle.hx_events.specs.declared.backup.Backup.{Backup}
 use Rattle.hx_rules.specs.declared.saves.QueuedSave.{QueuedSave}
@@ -8,9 +8,9 @@ use Rattle.hx_rules.specs.Entries.{Deed}
 use Rattle.hx_rules.specs.Versions.{last_version}
 use Rattle.hx_rules.specs.Copies.{dirty}
 use Rattle.hx_rules.specs.Saves.{running, queued, save_steps}
-use Rattle.hx_rules.specs.Backups.{Begun, begun, blocks_of, halted, backed, opened, faded, safe}
+use Rattle.hx_rules.specs.Backups.{Begun, begun, halted, backed, opened, faded, safe}
 use Rattle.hx_lives.specs.Calls.{stages_at_most}
-use Rattle.hx_closing_laws.specs.Left.{run_left, queue_left, begun_left, wait_left, after_left, left_by, left_after, stages_left}
+use Rattle.hx_closing_laws.specs.Left.{queue_left, begun_left, after_left, left_by, stages_left}
 use Rattle.hx_closing_laws.specs.SavesFall.{run_few, wait_few, vault_few}
 use Rattle.hx_closing_laws.specs.VaultFalls.{few_blocks}
 

@@ -1,9 +1,8 @@
 -- Each stage of the Closer brings the end of its resource's stages nearer.
-use Rattle.std.specs.Prelude.{◌≡◌, ◌<◌, ◌≤◌, ℕ, ◌+◌, true, List, ◌∷◌, length, Option, None, is_some, refl}
-use Rattle.std.proofs.Common.{ap, sym, ◌∙◌, subst, arith, eq-eqb}
+use Rattle.std.specs.Prelude.{◌≡◌, ◌<◌, ◌≤◌, ℕ, ◌+◌, true, List, length, None, is_some, refl}
+use Rattle.std.proofs.Common.{ap, sym, ◌∙◌, subst, eq-eqb}
 use Rattle.hx_events.specs.declared.event.Actor.TheVariants.{Closer}
 use Rattle.hx_events.specs.declared.event.Event.TheVariants.{Vault, Flush}
-use Rattle.hx_events.specs.declared.life.Entry.{Entry}
 use Rattle.hx_events.specs.declared.outcome.Outcome.{Outcome}
 use Rattle.hx_rules.specs.Copies.{kept}
 use Rattle.hx_rules.specs.Entries.{Deed, own, is_of}

@@ -1,6 +1,6 @@
 -- The Closer's stages of one resource after another.
-use Rattle.std.specs.Prelude.{◌≡◌, ◌≢◌, ◌<◌, ◌≤◌, ℕ, ◌+◌, ◌==◌, nat_le, not, Bool, true, false, ◌&&◌, List, [], ◌∷◌, ◌++◌, Option, Some, None, is_some, is_none, refl}
-use Rattle.std.proofs.Common.{ap, sym, ◌∙◌, subst, arith, eq-eqb, ⊎_elim}
+use Rattle.std.specs.Prelude.{◌≡◌, ◌≢◌, ◌≤◌, ℕ, ◌==◌, nat_le, not, Bool, true, false, ◌&&◌, List, ◌∷◌, ◌++◌, Option, Some, None, is_some, is_none, refl}
+use Rattle.std.proofs.Common.{ap, sym, ◌∙◌, subst, arith, ⊎_elim}
 use Rattle.std.proofs.lemmas.Bool.Decides.{nat_tests, eqb_tells}
 use Rattle.hx_events.specs.declared.event.Actor.TheVariants.{Closer}
 use Rattle.hx_events.specs.declared.event.Event.{Event}

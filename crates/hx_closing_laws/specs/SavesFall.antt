@@ -18,7 +18,7 @@ use Rattle.hx_rules.specs.Legal.{flush_row, is_check, is_write, finds_conflict}
 use Rattle.hx_rules_laws.specs.CopyLaws.{copies_change}
 use Rattle.hx_rules_laws.specs.Frames.{same_number}
 use Rattle.hx_rules_laws.specs.Rows.{and_left}
-use Rattle.hx_closing_laws.specs.Left.{run_left, queue_left, begun_left, backup_left, discard_left, work_left, vault_left, wait_left, after_left, held_by, left_by, left_after, stages_left}
+use Rattle.hx_closing_laws.specs.Left.{run_left, begun_left, backup_left, discard_left, vault_left, wait_left, after_left, held_by, left_by, left_after, stages_left}
 
 -- A save stage that was due leaves fewer.
 abbrev pub SaveStageFalls : Type 0
@@ -117,6 +117,7 @@ last_ends h i b true k o f s v last same how =
     lacks true s = omega arith
     lacks false false = omega arith
     lacks false true = subst (λ (e : Bool). 130 ≤ backup_left (true && (not e || false)) + 2) (sym same) (omega arith)
+
     dirt : (h : Bool) (b : Option Begun) (k s : Bool) → vault_left h b true k o f last ≤ begun_left b + wait_left h b k s v last + 2
     dirt true b k s = omega arith
     dirt false None k s = omega (arith, lacks k s)
@@ -180,6 +181,7 @@ save_falls restored guarded over base ds place event outcome content due row = b
         → left_by (run_finished (queued (save_steps restored ds)) e (last_version restored ds)) guarded None (if e || held_by guarded (run_finished (queued (save_steps restored ds)) e (last_version restored ds)) then begun restored guarded ds else None) i e (backed restored ds) (opened restored ds) (faded ds) (λ v. safe v ds) (last_version restored ds)
         < left_after restored guarded ds
     ended i e how = ends (running (save_steps restored ds)) guarded (queued (save_steps restored ds)) (begun restored guarded ds) (halted ds) i (dirty restored ds) e (backed restored ds) (opened restored ds) (faded ds) (λ v. safe v ds) (last_version restored ds) due how
+
     by : (o : Outcome) → flush_row (due_save restored guarded ds) over base o ≡ true → left_after restored guarded (deed place event o content ∷ ds) < left_after restored guarded ds
     by Idle row = absurd (not_idle (due_save restored guarded ds) due row)
     by (Checked x) row =

@@ -1,5 +1,5 @@
 -- Each vault stage that was due, where no save stage was, brings the end of a resource's stages nearer.
-use Rattle.std.specs.Prelude.{◌≡◌, ◌<◌, ◌≤◌, ℕ, ◌+◌, ◌-◌, ◌==◌, nat_lt, nat_le, not, Bool, true, false, ◌||◌, ◌&&◌, List, ◌∷◌, if◌then◌else◌, Option, Some, None, is_some, is_none, refl}
+use Rattle.std.specs.Prelude.{◌≡◌, ◌<◌, ◌≤◌, ℕ, ◌+◌, ◌==◌, nat_lt, nat_le, not, Bool, true, false, ◌||◌, ◌&&◌, List, ◌∷◌, if◌then◌else◌, Option, Some, None, is_some, is_none, refl}
 use Rattle.std.proofs.Common.{ap, sym, ◌∙◌, subst, arith, eq-eqb}
 use Rattle.std.proofs.lemmas.Bool.Decides.{nat_tests}
 use Rattle.hx_events.specs.declared.backup.Backup.{Backup}
@@ -12,14 +12,14 @@ use Rattle.hx_rules.specs.declared.saves.QueuedSave.{QueuedSave}
 use Rattle.hx_rules.specs.declared.saves.Running.{Running}
 use Rattle.hx_rules.specs.Entries.{Deed, deed}
 use Rattle.hx_rules.specs.Versions.{last_version, versions, version_at}
-use Rattle.hx_rules.specs.Copies.{dirty, kept}
+use Rattle.hx_rules.specs.Copies.{dirty}
 use Rattle.hx_rules.specs.Saves.{running, queued, save_steps}
-use Rattle.hx_rules.specs.Backups.{Snapshot, snapshot, Begun, begun_of, one_block_more, begun, blocks_of, prepared, halted, held, wanted, backed, opened, faded, safe}
-use Rattle.hx_rules.specs.Due.{VaultWork, SaveWork, Check, Write, Refuse, save_work, due_save, due_vault, run_version, may_discard}
+use Rattle.hx_rules.specs.Backups.{Snapshot, Begun, begun_of, one_block_more, begun, blocks_of, prepared, halted, held, wanted, backed, opened, faded, safe}
+use Rattle.hx_rules.specs.Due.{VaultWork, Check, Write, Refuse, save_work, due_save, due_vault, run_version, may_discard}
 use Rattle.hx_rules.specs.Legal.{vault_row, is_work, is_prepare, may_run, same_stage}
 use Rattle.hx_rules_laws.specs.Frames.{same_number}
 use Rattle.hx_rules_laws.specs.Rows.{and_left, and_right, due_of}
-use Rattle.hx_closing_laws.specs.Left.{run_left, queue_left, begun_left, backup_left, discard_left, work_left, vault_left, wait_left, after_left, held_by, left_by, left_after, stages_left}
+use Rattle.hx_closing_laws.specs.Left.{run_left, queue_left, begun_left, backup_left, vault_left, wait_left, after_left, held_by, left_by, left_after, stages_left}
 use Rattle.hx_closing_laws.specs.SavesFall.{backup_few}
 
 -- A vault stage that was due where no save stage was leaves fewer, if no version is longer than a content may be and a begun
@@ -184,16 +184,18 @@ held_opens (Some b) k q r f s run last v due = go (b.snapshot.version == run) re
   where
     it_is : b.snapshot.version ≡ v
     it_is = version_of b Open v due
-    safe_now : (e : Bool) → (v == last) ≡ e → (not e || e) ≡ true
-    safe_now true is = refl
-    safe_now false is = refl
+
+    either : (e : Bool) → (not e || e) ≡ true
+    either true = refl
+    either false = refl
+
     go : (e : Bool) → (b.snapshot.version == run) ≡ e → 0 + backup_left ((nat_le run v || s) && (not (run == last) || (v == last))) < begun_left (Some b) + backup_left e
     go false far = omega (arith, begun_some b, backup_few ((nat_le run v || s) && (not (run == last) || (v == last))))
     go true near =
         let mine : run ≡ v = sym (same_number b.snapshot.version run near) ∙ it_is in
         let reached : nat_le run v ≡ true = grind (arith, nat_tests, mine) in
         let whole : ((nat_le run v || s) && (not (run == last) || (v == last))) ≡ true =
-        ap (λ (x : Bool). (x || s) && (not (run == last) || (v == last))) reached ∙ ap (λ (n : ℕ). not (n == last) || (v == last)) mine ∙ safe_now (v == last) refl in
+        ap (λ (x : Bool). (x || s) && (not (run == last) || (v == last))) reached ∙ ap (λ (n : ℕ). not (n == last) || (v == last)) mine ∙ either (v == last) in
         omega (arith, begun_some b, ap backup_left whole)
 
 held_no_fade : (b : Option Begun) (q r f : Bool) (run last v : ℕ) → is_work (held_due b q r f run last) Fade v ≡ true → ⊥

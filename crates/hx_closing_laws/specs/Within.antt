@@ -1,5 +1,5 @@
 -- A life whose contents are within the limit.
-use Rattle.std.specs.Prelude.{◌≡◌, ◌≤◌, ℕ, true, Option, Some}
+use Rattle.std.specs.Prelude.{◌≡◌, ◌≤◌, ℕ, true, Some}
 use Rattle.std.proofs.Common.{arith}
 use Rattle.hx_events.specs.declared.backup.TheConstants.{CONTENT_MAX}
 use Rattle.hx_rules.specs.Backups.{Begun, begun}
