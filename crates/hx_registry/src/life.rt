@@ -11,10 +11,11 @@ ghost use Rattle.hx_resource.specs.Rooms.{got_content};
 ghost use Rattle.hx_rules.specs.Backups.{begun};
 ghost use Rattle.hx_rules.specs.Due.{run_version};
 ghost use Rattle.hx_rules.specs.Entries.{own, past};
-ghost use Rattle.hx_rules.specs.Legal.{holds_at, is_legal, lowest_save_due, lowest_vault_due, opening_of, restored_at};
+ghost use Rattle.hx_rules.specs.Legal.{holds_at, is_legal, lowest_save_due, lowest_vault_due, opening_of, restored_at, save_due, vault_due};
 ghost use Rattle.hx_rules.specs.Saves.{running, save_steps};
 ghost use Rattle.hx_rules.specs.Versions.{version_at, versions};
 ghost use Rattle.hx_rules_laws.specs.Sizes.{AreWhole};
+ghost use Rattle.hx_closing_laws.specs.Within.{IsWithinLimits};
 ghost use Rattle.hx_lives.specs.Calls.{AddsEntry};
 ghost use Rattle.hx_lives.specs.Course.{course_of, opening, with_entry};
 ghost use Rattle.hx_rules_laws.specs.Limits.{IsShortBackup};
@@ -121,6 +122,13 @@ impl OpenLife {
         let _ = &self.core;
     }
 
+    /// The history is legal, and no content of it is longer than a content may be.
+    pub fn keeps_limits(&self)
+        ensures { IsWithinLimits self.now.course }
+    {
+        self.core.legal();
+    }
+
     /// The snapshot of the backup that is begun, or none exactly where none is.
     pub fn begun(&self, res: ResNo) -> Option<&BegunBackup>
         requires known { res < length self.now.course.names }
@@ -177,6 +185,22 @@ impl OpenLife {
         ensures { result ≡ lowest_save_due (opening self.now.course) self.now.course.entries }
     {
         self.core.due_save()
+    }
+
+    /// Whether a vault stage is due for the resource.
+    pub fn is_vault_due(&self, res: ResNo) -> bool
+        requires { res < length self.now.course.names }
+        ensures { result ≡ is_some (vault_due (opening self.now.course) self.now.course.entries res) }
+    {
+        self.core.vault_index().has(res)
+    }
+
+    /// Whether a save stage is due for the resource.
+    pub fn is_save_due(&self, res: ResNo) -> bool
+        requires { res < length self.now.course.names }
+        ensures { result ≡ is_some (save_due (opening self.now.course) self.now.course.entries res) }
+    {
+        self.core.save_index().has(res)
     }
 
     /// The resources of the life.

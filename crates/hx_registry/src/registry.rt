@@ -1,13 +1,14 @@
 //! The registry.
 
-ghost use Rattle.std.specs.Prelude.{◌≡◌, ◌≤◌, ◌<◌, length, IfOk, OnErr};
+ghost use Rattle.std.specs.Prelude.{◌≡◌, ◌≤◌, ◌<◌, length, is_some, IfOk, OnErr};
 ghost use Rattle.hx_core.specs.Registered.{copies_of};
 ghost use Rattle.hx_core.specs.States.{state_of};
 ghost use Rattle.hx_events.specs.Texts.{resource_of};
 ghost use Rattle.hx_events.specs.declared.event.Actor.TheVariants.{Closer};
 ghost use Rattle.hx_events.specs.declared.event.Event.TheVariants.{Act, Flush, Quit, Vault as VaultEvent};
 ghost use Rattle.hx_rules.specs.Entries.{own, past};
-ghost use Rattle.hx_rules.specs.Legal.{lowest_save_due, lowest_vault_due, restored_at};
+ghost use Rattle.hx_rules.specs.Legal.{lowest_save_due, lowest_vault_due, restored_at, save_due, vault_due};
+ghost use Rattle.hx_closing_laws.specs.Within.{IsWithinLimits};
 ghost use Rattle.hx_lives.specs.Calls.{AddsEntry, HasGoneOn, IsNoCrash, crash_end};
 ghost use Rattle.hx_lives.specs.Chained.{IsLived};
 ghost use Rattle.hx_lives.specs.Course.{course_of, last_faults, opening};
@@ -100,6 +101,31 @@ impl<D: Disk> Registry<D> {
         ensures { result ≡ lowest_save_due (opening self.now.course) self.now.course.entries }
     {
         self.parts.life.due_save()
+    }
+
+    /// Whether a vault stage is due for the resource. The history is legal, and no content of it is longer than a content may be.
+    pub(crate) fn is_vault_due(&self, res: ResNo) -> bool
+        requires { res < length self.now.course.names }
+        ensures due { result ≡ is_some (vault_due (opening self.now.course) self.now.course.entries res) }
+        ensures within { IsWithinLimits self.now.course }
+    {
+        self.parts.life.keeps_limits();
+        self.parts.life.is_vault_due(res)
+    }
+
+    /// Whether a save stage is due for the resource.
+    pub(crate) fn is_save_due(&self, res: ResNo) -> bool
+        requires { res < length self.now.course.names }
+        ensures { result ≡ is_some (save_due (opening self.now.course) self.now.course.entries res) }
+    {
+        self.parts.life.is_save_due(res)
+    }
+
+    /// The history is legal, and no content of it is longer than a content may be.
+    pub(crate) fn keeps_limits(&self)
+        ensures { IsWithinLimits self.now.course }
+    {
+        self.parts.life.keeps_limits();
     }
 
     /// The entries so far, the oldest first.

@@ -1,0 +1,10 @@
+pub mod Left
+pub mod SavesFall
+pub mod VaultFalls
+pub mod Few
+pub mod Within
+pub mod Nearer
+pub mod Order
+pub mod Settling
+pub mod Quitting
+pub mod Closing
