@@ -102,10 +102,7 @@ fn begun<D: Disk>(
 }
 
 // Syncs and reads the slot files, and takes over what was found in them.
-fn open_vault<D: Disk>(
-    alloc: Global,
-    disk: &mut D,
-) -> Result<(Vault, Vec<PairFound>), ScanError>
+fn open_vault<D: Disk>(alloc: Global, disk: &mut D) -> Result<(Vault, Vec<PairFound>), ScanError>
     ensures quiet { HandsBack D.tells D.time D.past D.failures disk.old disk.new }
     ensures opened { IfOk result (λ r. IsVaultOpened D.tells D.now r.0 r.1.items disk.new) }
     ensures fault { IsErrOf result ScanError.OpenFault → Rose (D.failures disk.old) (D.failures disk.new) }

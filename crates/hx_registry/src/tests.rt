@@ -141,22 +141,36 @@ fn event(alloc: Global, text: &str) -> Result<Event, AllocError> {
     })
 }
 
+fn is_known(registry: &Registry<MemDisk>, res: ResNo) -> bool
+    ensures { result ≡ true → res < length registry.now.course.names }
+{
+    (res.number() as usize) < registry.names().len()
+}
+
+fn command(registry: &mut Registry<MemDisk>, command: Command) -> Result<Outcome, Fail> {
+    if !is_known(registry, command.resource()) {
+        return Err(Fail::from("a command of a resource that isn't there"));
+    }
+    Ok(registry.command(Actor::Window(0), command)?)
+}
+
+fn stage(registry: &mut Registry<MemDisk>, res: ResNo, saves: bool) -> Result<Outcome, Fail> {
+    if !is_known(registry, res) {
+        return Err(Fail::from("a stage of a resource that isn't there"));
+    }
+    if saves {
+        return Ok(registry.save_stage(Actor::Saver(0), res)?);
+    }
+    Ok(registry.vault_stage(Actor::Writer(0), res)?)
+}
+
 fn done(registry: &mut Registry<MemDisk>, event: Event) -> Result<Outcome, Fail> {
-    let count = registry.names().len();
-    let done = match event {
-        Event::Act(command) if (command.resource().number() as usize) < count => {
-            registry.command(Actor::Window(0), command)
-        }
-        Event::Vault(res) if (res.number() as usize) < count => {
-            registry.vault_stage(Actor::Writer(0), res)
-        }
-        Event::Flush(res) if (res.number() as usize) < count => {
-            registry.save_stage(Actor::Saver(0), res)
-        }
-        Event::Quit => registry.ask_quit(),
-        _ => return Err(Fail::from("an event of a resource that isn't there")),
-    };
-    Ok(done?)
+    match event {
+        Event::Act(asked) => command(registry, asked),
+        Event::Vault(res) => stage(registry, res, false),
+        Event::Flush(res) => stage(registry, res, true),
+        Event::Quit => Ok(registry.ask_quit()?),
+    }
 }
 
 fn is_outcome_of(outcome: &Outcome, names: &Names) -> bool
@@ -317,7 +331,11 @@ fn comes_back_by_pick(rt: &impl Abort, alloc: Global, fuse: u64, wanted: &str) -
         match &restored {
             None => assert_eq!(rt; content, "-", "{fuse} {wanted}"),
             Some(backup) => {
-                assert_eq!(rt; backup.content.as_slice(), content.as_bytes(), "{fuse} {wanted}");
+                assert_eq!(rt;
+                    backup.content.as_slice(),
+                    content.as_bytes(),
+                    "{fuse} {wanted}"
+                );
             }
         }
         pick = u64::saturating_add(pick, 1);
@@ -350,10 +368,8 @@ flush";
 
 fn is_fault(outcome: &Outcome) -> bool {
     match outcome {
-        Outcome::Fault
-        | Outcome::StageFault(_, _)
-        | Outcome::CheckFault
-        | Outcome::WriteFault(_) => true,
+        Outcome::Fault | Outcome::StageFault(_, _) | Outcome::CheckFault | Outcome::WriteFault(_) =>
+            true,
         _ => false,
     }
 }
