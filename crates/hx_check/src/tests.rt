@@ -103,7 +103,13 @@ fn crowded(alloc: Global, answer: &str) -> Result<Vec<u8>, AllocError> {
     let mut out = Vec::new(alloc);
     put_line(&mut out, "hotexit trace 1\nlife 1")?;
     put_lines(alloc, &mut out, "name file:///", (0, 65), "")?;
-    put_lines(alloc, &mut out, "w0 create file:///", (0, 64), "\tcreated 1")?;
+    put_lines(
+        alloc,
+        &mut out,
+        "w0 create file:///",
+        (0, 64),
+        "\tcreated 1",
+    )?;
     put_line(&mut out, answer)?;
     put_line(&mut out, "w0 close file:///0\tclosed")?;
     put_line(&mut out, "w0 create file:///64\tcreated 1")?;
