@@ -22,7 +22,7 @@ answer-requires-clause-answered g c =
 pub read-requires-clause-command : goal.read-requires-clause-command
 read-requires-clause-command g c =
     let now : Course = c.reserve.new.self.course in
-    (c.args.command, refl, sym c.resource_of-res.ensures, reads_by_act (opening now) now.entries c.args.command _ (sym c.ask.ensures ∙ c.in-Device.is ∙ ap Device c.in-ReadFile.is), (_, sym c.ask.ensures ∙ c.in-Device.is ∙ ap Device c.in-ReadFile.is))
+    (c.args.command, refl, sym c.resource-res.ensures, reads_by_act (opening now) now.entries c.args.command _ (sym c.ask.ensures ∙ c.in-Device.is ∙ ap Device c.in-ReadFile.is), (_, sym c.ask.ensures ∙ c.in-Device.is ∙ ap Device c.in-ReadFile.is))
 
 pub write_outside-requires-clause-command : goal.write_outside-requires-clause-command
 write_outside-requires-clause-command g c =
