@@ -6,6 +6,8 @@
 mod begin;
 mod blocks;
 mod closing;
+#[cfg(test)]
+mod closing_tests;
 mod events;
 mod files;
 mod life;

@@ -226,7 +226,11 @@ fn after(
 }
 
 // The session up to its end.
-fn played(rt: &impl Abort, alloc: Global, session: &str) -> Result<Registry<MemDisk>, Fail> {
+pub(crate) fn played(
+    rt: &impl Abort,
+    alloc: Global,
+    session: &str,
+) -> Result<Registry<MemDisk>, Fail> {
     let (head, life) = parted(session, "life ");
     let (kind, lines) = parted(life, "\n");
     let mut registry = begun(alloc, disk(alloc, head)?, kind == "guarded")?;
