@@ -9,7 +9,7 @@ ghost use Rattle.hx_report.specs.Outlines.{AreUpTo, IsTallied, dirty_in, first_o
 
 use crate::outline::Outline;
 use crate::share::{Share, share_by};
-use hx_events::{Entry, Event, Life, Names, Outcome, PairFound, ResNo};
+use hx_events::{Command, Entry, Event, Life, Names, Outcome, PairFound, ResNo};
 use std::alloc::{AllocError, Global};
 
 /// A request to save that found its copy open.

@@ -12,7 +12,7 @@ loop-place-preserved c =
     let y = c.in_ok-first.field-0 in
     let inv = c.loop-place.invariant in
     let pushed = c.in_ok-push.ensures.items in
-    let at : slice_get c.args.names.now c.loop-place.place ≡ Some c.text-name.result.now = subst (λ (k : ℕ). slice_get c.args.names.now k ≡ Some c.text-name.result.now) c.in_ok-numbered.ensures c.text-name.ensures.text in
+    let at : slice_get c.args.names.now c.loop-place.place ≡ Some c.text-name.result.now = subst (λ (k : ℕ). slice_get c.args.names.now k ≡ Some c.text-name.result.now) c.new.ensures c.text-name.ensures.text in
     let name = name_is c.args.names.now c.loop-place.place c.text-name.result.now at in
     record {
       count = ap length pushed ∙ omega (arith, length-append xs (y ∷ []), inv.count);
