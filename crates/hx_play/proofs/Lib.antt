@@ -1,0 +1,5 @@
+mod Disks
+mod LifeSteps
+mod Halts
+mod Plants
+mod Whole

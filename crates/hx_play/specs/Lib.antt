@@ -1,0 +1,4 @@
+pub mod Over
+pub mod Running
+pub mod Planting
+pub mod Played
