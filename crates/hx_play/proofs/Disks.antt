@@ -1,5 +1,5 @@
 -- A disk that goes on and on.
-use Rattle.std.specs.Prelude.{◌≡◌, ◌≤◌, ℕ, refl}
+use Rattle.std.specs.Prelude.{◌≡◌, ℕ, refl}
 use Rattle.std.proofs.Common.{◌∙◌, sym, subst, arith}
 use Rattle.hx_lives.specs.Course.{Past}
 use Rattle.hx_lives.specs.Calls.{HasGoneOn}

@@ -1,5 +1,5 @@
 -- What each step of a script makes of the lives.
-use Rattle.std.specs.Prelude.{◌≡◌, ◌≤◌, ◌+◌, ℕ, Bool, true, false, IsTrue, List, [], ◌∷◌, ◌++◌, length, Option, Some, None, Result, Ok, Err, IfErr, is_some, if◌then◌else◌, refl}
+use Rattle.std.specs.Prelude.{◌≡◌, ◌≤◌, ℕ, Bool, true, false, IsTrue, List, [], ◌∷◌, ◌++◌, length, Result, Ok, Err, IfErr, is_some, if◌then◌else◌, refl}
 use Rattle.std.proofs.Common.{sym, ◌∙◌, ap, subst, arith, inl, inr, length-append}
 use Rattle.hx_disk.specs.File.{FileState}
 use Rattle.hx_faults.specs.Faults.{Rose}
@@ -15,13 +15,13 @@ use Rattle.hx_events.specs.Places.{place_of}
 use Rattle.hx_rules.specs.Legal.{with_name, with_restored}
 use Rattle.hx_script.specs.declared.script.Step.{Step}
 use Rattle.hx_script.specs.declared.script.Step.TheVariants.{Do, Crash, Restart}
-use Rattle.hx_script.specs.Follows.{Move, move_by, moves_of, moves_asked, IsClosed, IsCutOff, HasFollowed, HaveEnded, Follows, opens_after}
+use Rattle.hx_script.specs.Follows.{Move, move_by, moves_of, moves_asked, IsClosed, IsCutOff, HaveEnded, Follows, opens_after}
 use Rattle.hx_lives.specs.Course.{Course, Past, course_of, opening, last_faults}
 use Rattle.hx_lives.specs.Chained.{OnlySyncs, AreLived, faults_of}
 use Rattle.hx_lives.specs.Lasting.{agrees_less, at_once, lives_kept, lives_on}
 use Rattle.hx_lives.specs.Quiet.{is_quiet_before_quit}
 use Rattle.hx_lives.specs.State.{RegistryState}
-use Rattle.hx_lives.specs.Calls.{AddsEntry, AddsStages, Begins, HandsBack, HasGoneOn, Quits, with_entries}
+use Rattle.hx_lives.specs.Calls.{AddsEntry, AddsStages, Begins, HandsBack, HasGoneOn, Quits}
 use Rattle.hx_play.specs.Over.{AreOver, EndsLife}
 use Rattle.hx_play.specs.Running.{IsBetween, IsCutShort, IsCutting, IsRunning}
 

@@ -1,12 +1,11 @@
 -- Lives that follow a script name only resources of their own.
-use Rattle.std.specs.Prelude.{◌≡◌, ◌≤◌, ◌<◌, ◌+◌, ◌==◌, ℕ, zero, suc, not, Bool, true, false, ◌&&◌, List, [], ◌∷◌, ◌++◌, length, map, All, Option, Some, None, reverse, slice_index_or, if◌then◌else◌, refl}
-use Rattle.std.proofs.Common.{sym, ◌∙◌, ap, subst, arith, ⊎_elim, ne_eqb}
+use Rattle.std.specs.Prelude.{◌≡◌, ◌≤◌, ◌<◌, ◌+◌, ◌==◌, ℕ, zero, suc, not, Bool, true, false, ◌&&◌, List, [], ◌∷◌, ◌++◌, length, All, Option, Some, None, reverse, if◌then◌else◌, refl}
+use Rattle.std.proofs.Common.{sym, ◌∙◌, subst, arith, ⊎_elim, ne_eqb}
 use Rattle.std.proofs.lemmas.Bool.{cases_lt}
 use Rattle.std.proofs.lemmas.Bool.Decides.{nat_tests}
 use Rattle.std.proofs.lemmas.List.{get_or_past, length-map, reverse-append, reverse-reverse}
 use Rattle.hx_disk.specs.File.{FileState}
 use Rattle.hx_etag.specs.declared.stat.Stat.{Stat}
-use Rattle.hx_events.specs.declared.backup.Backup.{Backup}
 use Rattle.hx_events.specs.declared.event.Command.{Command}
 use Rattle.hx_events.specs.declared.event.Command.TheVariants.{Open, Create, Edit, Undo, Redo, Save, Revert, Close, Outside}
 use Rattle.hx_events.specs.declared.event.Event.{Event}
@@ -20,14 +19,13 @@ use Rattle.hx_events.specs.declared.outcome.Outcome.TheVariants.{Idle, Vetoed}
 use Rattle.hx_events.specs.Texts.{IsEventOf, IsOutcomeOf, resource_of}
 use Rattle.hx_rules.specs.Copies.{kept}
 use Rattle.hx_rules.specs.Due.{due_save, due_vault}
-use Rattle.hx_rules.specs.Entries.{Deed, is_of, own}
+use Rattle.hx_rules.specs.Entries.{is_of, own}
 use Rattle.hx_rules.specs.Interleavings.{are_closing, ends_in_quit, is_closer, is_closing_stage, is_end, is_idle, is_quit}
-use Rattle.hx_rules.specs.Legal.{Opening, flush_row, found_backup, is_legal, is_lowest, is_row, is_over, is_unsafe, lowest, lowest_from, opening_of, restored_at, run_at, vault_row, was_spent, with_restored}
+use Rattle.hx_rules.specs.Legal.{Opening, flush_row, found_backup, is_legal, is_lowest, is_row, is_over, is_unsafe, lowest, lowest_from, restored_at, run_at, vault_row, was_spent}
 use Rattle.hx_rules_laws.specs.Rows.{and_left, and_right, not_true, past_legal, row_holds}
 use Rattle.hx_report.specs.Traces.{AreEntriesOf, AreWhole, IsWhole}
 use Rattle.hx_script.specs.declared.script.Step.{Step}
 use Rattle.hx_script.specs.declared.script.Step.TheVariants.{Do, Crash, Restart}
-use Rattle.hx_script.specs.Events.{IsAskedBy}
 use Rattle.hx_script.specs.Follows.{Follows, HasDone, HasFollowed, HaveEnded, IsClosed, Move, moves_asked, moves_of}
 use Rattle.hx_script.specs.Scripts.{IsStepOf}
 use Rattle.hx_lives.specs.Course.{Past, course_of, opening}

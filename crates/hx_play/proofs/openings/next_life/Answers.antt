@@ -1,4 +1,4 @@
-use Rattle.std.proofs.Common.{rules, ◌≡◌, ◌∙◌, ◌≤◌, ℕ, List, length, ap, sym, subst, Err}
+use Rattle.std.proofs.Common.{◌∙◌, ◌≤◌, ℕ, List, length, ap, sym, subst, Err}
 use Rattle.hx_play.proofs.LifeSteps.{names_stay, begun, stays_between}
 use Rattle.hx_play.proofs.openings.next_life.Goals as goal
 

@@ -1,4 +1,4 @@
-use Rattle.std.proofs.Common.{rules, ◌≡◌, ◌≢◌, ◌∙◌, ◌+◌, ◌<◌, ◌++◌, ℕ, IsTrue, List, [], ◌∷◌, length, take, drop, reverse, suc, ap, sym, subst, refl, arith}
+use Rattle.std.proofs.Common.{◌≡◌, ◌∙◌, ◌+◌, ◌++◌, ℕ, List, [], ◌∷◌, take, drop, reverse, ap, sym, subst, refl}
 use Rattle.std.proofs.lemmas.List.{take_more, reverse-append, take-append-drop}
 use Rattle.hx_script.specs.declared.script.Plant.{Plant}
 use Rattle.hx_play.specs.Planting.{HasPlanted, OnlyPlants}

@@ -1,4 +1,4 @@
-use Rattle.std.proofs.Common.{rules, ◌≡◌, ◌∙◌, ◌≤◌, ◌<◌, ◌⊎◌, ◌++◌, ℕ, Bool, true, false, List, [], ◌∷◌, All, length, reverse, ap, sym, subst, inl, inr, ⊎_elim, arith, refl, IfOk, IfErr}
+use Rattle.std.proofs.Common.{rules, ◌≡◌, ◌∙◌, ◌++◌, true, List, [], ◌∷◌, All, length, reverse, ap, sym, subst, inl, inr, ⊎_elim, arith}
 use Rattle.std.specs.Vec.Iter.{into_iter_items}
 use Rattle.hx_events.specs.declared.life.Life.{Life}
 use Rattle.hx_script.specs.declared.script.Step.{Step}

@@ -1,5 +1,5 @@
 -- The steps so far were taken, and a life runs after them.
-use Rattle.std.proofs.Common.{◌≡◌, ◌<◌, ◌≤◌, ◌++◌, ℕ, All, length, reverse}
+use Rattle.std.proofs.Common.{◌≡◌, ◌<◌, ◌≤◌, ◌++◌, All, length, reverse}
 use Rattle.std.specs.Vec.Iter.{into_iter_items, into_iter_len}
 use Rattle.hx_lives.specs.Calls.{HasGoneOn}
 use Rattle.hx_script.specs.Scripts.{IsStepOf}

@@ -1,4 +1,4 @@
-use Rattle.std.proofs.Common.{rules, ◌≡◌, ◌∙◌, ℕ, IsTrue, List, [], All, reverse, ap, sym, subst, inl, inr, refl}
+use Rattle.std.proofs.Common.{◌≡◌, ℕ, List, All, reverse, sym, subst, inl}
 use Rattle.hx_disk.specs.File.{FileState}
 use Rattle.hx_script.specs.declared.script.Plant.{Plant}
 use Rattle.hx_script.specs.declared.script.Step.{Step}

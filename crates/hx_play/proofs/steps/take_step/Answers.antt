@@ -1,4 +1,4 @@
-use Rattle.std.proofs.Common.{rules, ◌≡◌, ◌∙◌, ◌≤◌, ◌⊎◌, ℕ, Bool, true, false, List, ◌∷◌, Result, ap, sym, subst, inl, inr, refl, IfOk, IfErr}
+use Rattle.std.proofs.Common.{◌≡◌, ◌⊎◌, true, false, List, ◌∷◌, Result, sym, subst, inl, inr, refl, IfOk, IfErr}
 use Rattle.std.specs.declared.alloc.AllocError.{AllocError}
 use Rattle.hx_events.specs.declared.life.Ended.TheVariants.{Crash as ByCrash, Cut, Restart as AtRestart}
 use Rattle.hx_events.specs.declared.life.Life.{Life}
@@ -7,12 +7,11 @@ use Rattle.hx_lives.specs.Calls.{crash_end}
 use Rattle.hx_lives.specs.Chained.{faults_of}
 use Rattle.hx_lives.specs.State.{RegistryState}
 use Rattle.hx_script.specs.declared.script.Step.{Step}
-use Rattle.hx_script.specs.declared.script.Step.TheVariants.{Do, Crash, Restart}
+use Rattle.hx_script.specs.declared.script.Step.TheVariants.{Crash, Restart}
 use Rattle.hx_play.specs.declared.playing.Halt.TheVariants.{NoMemory, OpenFault}
 use Rattle.hx_play.specs.declared.endings.Stopped.{Stopped}
 use Rattle.hx_play.specs.Over.{EndsLife}
 use Rattle.hx_play.specs.Running.{IsRunning, IsBetween, IsCutShort, is_restart}
-use Rattle.hx_play.proofs.Disks.{gone_on_joined, gone_on_same}
 use Rattle.hx_play.proofs.LifeSteps.{run_on, cutting, cutting_end, cut_short, crashed_over, restarted, rose_behind, if_err}
 use Rattle.hx_play.proofs.steps.take_step.Goals as goal
 
