@@ -25,13 +25,12 @@ fn quit(
 fn ends(rt: &impl Abort, alloc: Global, session: &str, wanted: &str) -> Result<(), Fail> {
     let (answer, again, life) = quit(played(rt, alloc, session)?);
     let entries = life.history.as_slice();
-    let mut last = "";
     for (entry, line) in entries.iter().zip(wanted.split('\n')) {
         let outcome = format!(in alloc; "{:?}", entry.outcome)?;
         assert_eq!(rt; outcome.as_str(), line);
-        last = line;
     }
     assert_eq!(rt; entries.len(), wanted.split('\n').count());
+    let last = wanted.rsplit('\n').next().unwrap_or("");
     let answer = format!(in alloc; "{:?}", answer?)?;
     assert_eq!(rt; answer.as_str(), last);
     let again = format!(in alloc; "{:?}", again?)?;
