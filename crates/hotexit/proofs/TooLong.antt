@@ -1,6 +1,6 @@
 -- What is longer than it may be is refused as a whole.
-use Rattle.std.specs.Prelude.{◌≡◌, ◌<◌, ◌+◌, ℕ, nat_lt, true, List, length, refl}
-use Rattle.std.proofs.Common.{◌∙◌, ap, subst, arith}
+use Rattle.std.specs.Prelude.{◌≡◌, ◌<◌, ℕ, nat_lt, true, List, length}
+use Rattle.std.proofs.Common.{◌∙◌, arith}
 use Rattle.std.proofs.lemmas.Bool.Decides.{nat_tests}
 use Rattle.hx_script.specs.declared.script.Form.{Form}
 use Rattle.hx_script.specs.declared.why.Why.{Why}
@@ -8,7 +8,6 @@ use Rattle.hx_script.specs.declared.why.Why.TheVariants.{TooLong}
 use Rattle.hx_script.specs.Readings.{Reading, Refused}
 use Rattle.hx_script.specs.Scripts.{script_in}
 use Rattle.hx_script.specs.Traces.{trace_in}
-use Rattle.hotexit.specs.declared.whole.End.{End}
 use Rattle.hotexit.specs.declared.whole.End.TheVariants.{BadScript}
 
 over : (limit n : ℕ) → limit < n → nat_lt limit n ≡ true

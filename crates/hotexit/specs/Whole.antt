@@ -1,5 +1,5 @@
 -- What a whole run has done.
-use Rattle.std.specs.Prelude.{◌≡◌, ◌⊎◌, ℕ, Bool, true, false, List, [], ◌∷◌, ◌++◌, reverse, codes, decimal, Option, Some, None}
+use Rattle.std.specs.Prelude.{◌≡◌, ℕ, Bool, true, false, List, [], ◌∷◌, ◌++◌, reverse, codes, decimal, Option, Some, None}
 use Rattle.hx_disk.specs.File.{FileState}
 use Rattle.hx_events.specs.declared.life.Life.{Life}
 use Rattle.hx_check.specs.declared.verdict.Verdict.{Verdict}

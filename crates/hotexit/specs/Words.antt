@@ -1,5 +1,5 @@
 -- Which words are a command line, and what they ask for. They are this project's own.
-use Rattle.std.specs.Prelude.{◌≡◌, ◌≤◌, ℕ, nat_le, nat_lt, Bool, true, false, ◌&&◌, List, [], ◌∷◌, ◌++◌, map, count_by, bytes_eq, codes, string_bytes, String, if◌then◌else◌, Option, Some, None, is_some}
+use Rattle.std.specs.Prelude.{◌≡◌, ◌≤◌, ℕ, nat_le, nat_lt, Bool, true, false, ◌&&◌, List, [], ◌∷◌, count_by, bytes_eq, codes, string_bytes, String, if◌then◌else◌, Option, Some, None, is_some}
 use Rattle.std.specs.declared.alloc.Global.{Global}
 use Rattle.hx_base.specs.Decimals.{decimal_value}
 use Rattle.hotexit.specs.declared.words.Setting.{Setting}

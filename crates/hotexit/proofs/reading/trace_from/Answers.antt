@@ -1,9 +1,5 @@
-use Rattle.std.proofs.Common.{rules, ◌≡◌, ◌∙◌, ◌<◌, ◌+◌, ℕ, List, Err, length, sym, ap, subst, arith}
-use Rattle.hx_script.specs.declared.why.Why.{Why}
-use Rattle.hx_script.specs.declared.why.Why.TheVariants.{TooLong}
-use Rattle.hx_script.specs.Readings.{Reading, Refused}
+use Rattle.std.proofs.Common.{rules, ◌≡◌, ◌∙◌, sym, arith}
 use Rattle.hx_io.specs.Streams.{added}
-use Rattle.hotexit.specs.declared.whole.End.{End}
 use Rattle.hotexit.specs.declared.whole.End.TheVariants.{BadScript}
 use Rattle.hotexit.proofs.TooLong.{trace_too_long, same_refusal}
 use Rattle.hotexit.proofs.reading.trace_from.Goals as goal

@@ -1,4 +1,4 @@
-use Rattle.std.proofs.Common.{rules, ◌≡◌, ◌∙◌, ◌+◌, ◌≤◌, ◌<◌, ℕ, List, String, Some, cond, count_by, Bool, None, if◌then◌else◌, length, drop, ap, sym, subst, refl, arith}
+use Rattle.std.proofs.Common.{rules, ◌≡◌, ◌∙◌, ◌+◌, List, String, cond, count_by, Bool, None, if◌then◌else◌, length, drop, ap, sym, arith}
 use Rattle.std.specs.declared.alloc.Global.{Global}
 use Rattle.hotexit.specs.declared.words.Setting.{Setting}
 use Rattle.hotexit.specs.Words.{command_in, first_setting, is_fail, is_fuse, order_of, settings_before, texts_of}
