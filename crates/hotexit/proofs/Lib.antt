@@ -1,2 +1,2 @@
-mod Frames
-mod Lines
+mod Settings
+mod TooLong

@@ -1,4 +1,3 @@
-pub mod Frame
-pub mod Meaning
-pub mod Script
+pub mod Words
 pub mod Whole
+pub mod Ends

@@ -1,59 +1,102 @@
 -- What a whole run has done.
-use Rattle.std.specs.Prelude.{◌≡◌, ◌⊎◌, ℕ, Bool, false, bytes_eq, List, [], ◌∷◌, ◌++◌, reverse, codes, string_bytes, String, Option}
-use Rattle.std.specs.declared.alloc.Global.{Global}
-use Rattle.hotexit.specs.declared.script.Step.{Step}
-use Rattle.hotexit.specs.declared.script.Step.TheVariants.{Backup}
-use Rattle.hotexit.specs.declared.session.Session.{Session}
+use Rattle.std.specs.Prelude.{◌≡◌, ℕ, Bool, true, false, List, [], ◌∷◌, ◌++◌, reverse, codes, decimal, Option, Some, None}
+use Rattle.hx_disk.specs.File.{FileState}
+use Rattle.hx_events.specs.declared.life.Life.{Life}
+use Rattle.hx_check.specs.declared.verdict.Verdict.{Verdict}
+use Rattle.hx_check.specs.declared.verdict.Verdict.TheVariants.{Legal, NotAt}
+use Rattle.hx_check.specs.Verdicts.{verdict_on}
+use Rattle.hx_report.specs.Summaries.{summary_text}
+use Rattle.hx_report.specs.Traces.{pair_lines, trace_text}
+use Rattle.hx_script.specs.declared.script.Form.TheVariants.{Replay as ForReplay, Restore as ForRestore}
+use Rattle.hx_script.specs.declared.script.Script.{Script}
+use Rattle.hx_script.specs.declared.script.Step.{Step}
+use Rattle.hx_script.specs.declared.trace.Trace.{Trace}
+use Rattle.hx_script.specs.declared.why.Why.{Why}
+use Rattle.hx_script.specs.Follows.{AtAnOpening, AtTheEnd, FollowsTo, ForMemory}
+use Rattle.hx_script.specs.Made.{made_script}
+use Rattle.hx_script.specs.Readings.{Reading, Reads, Refused}
+use Rattle.hx_script.specs.Scripts.{script_in}
+use Rattle.hx_script.specs.Traces.{trace_in}
+use Rattle.hx_lives.specs.Course.{Past}
+use Rattle.hx_play.specs.Played.{ArePlayed}
 use Rattle.hotexit.specs.declared.whole.End.{End}
 use Rattle.hotexit.specs.declared.whole.End.TheVariants.{Done, Usage, BadScript, ReadFault, WriteFault, NoMemory, OpenFault}
-use Rattle.hotexit.specs.Frame.{shown_text}
-use Rattle.hotexit.specs.Meaning.{text, kept, printed}
-use Rattle.hotexit.specs.Script.{Verdict, Script, verdict}
+use Rattle.hotexit.specs.declared.words.Order.{Order}
+use Rattle.hotexit.specs.declared.words.Order.TheVariants.{Check, Play}
+use Rattle.hotexit.specs.declared.words.Task.{Task}
+use Rattle.hotexit.specs.declared.words.Task.TheVariants.{Replay, Restore, Made}
 
--- the words are the one word `replay`
-abbrev pub are_replay : List (String Global) → Bool
-are_replay (word ∷ []) = bytes_eq (string_bytes word) (codes "replay")
-are_replay words = false
+-- the script that a task plays: the one that was read, or the one that is generated
+abbrev pub script_of : Task → List ℕ → Reading Script
+script_of Replay input = script_in ForReplay input
+script_of Restore input = script_in ForRestore input
+script_of (Made n) input = Reads (made_script n)
 
--- a session over a file with these bytes is where these lines, the newest first, have brought it
-pub record IsAfter (old : Option (List ℕ)) (lines : List Step) (bytes : List ℕ) (session : Session) : Type 0 where
-  pub text : session.text.items ≡ text old lines
-  pub printed : session.printed.items ≡ printed old lines
-  pub kept : shown_text bytes ≡ kept old lines
+-- the lines of the pairs that the first life began with
+abbrev pub restored_text : List Life → List ℕ
+restored_text [] = []
+restored_text (life ∷ lives) = pair_lines 0 life.base
 
--- The bytes that were read are a script, and the file shows what all its lines keep. `out` is what they print.
-pub record Played (script old new out : List ℕ) : Type 0 where
-  pub steps : List Step
-  pub reads : verdict script ≡ Script steps
-  pub printed : out ≡ printed (shown_text old) (reverse steps)
-  pub kept : shown_text new ≡ kept (shown_text old) (reverse steps)
+-- What is printed of the lives, the oldest first: they themselves, what was restored, or the counts.
+abbrev pub text_of : Task → List Life → List ℕ
+text_of Replay lives = trace_text lives
+text_of Restore lives = restored_text lives
+text_of (Made n) lives = summary_text n lives
 
--- the file shows what the first of these lines keep, possibly none or all of them
-pub record KeepsSome (steps : List Step) (old new : List ℕ) : Type 0 where
-  pub done : List Step
-  pub rest : List Step
-  pub all : steps ≡ done ++ rest
-  pub kept : shown_text new ≡ kept (shown_text old) (reverse done)
+-- what is printed of a verdict
+abbrev pub verdict_text : Verdict → List ℕ
+verdict_text Legal = codes "legal\n"
+verdict_text (NotAt line) = codes "not at " ++ decimal line ++ codes "\n"
 
--- At one of these lines a call of the disk failed. Where it isn't a backup, the file shows what the lines before it keep.
-pub record StopsAt (steps : List Step) (old new : List ℕ) : Type 0 where
-  pub done : List Step
-  pub step : Step
-  pub rest : List Step
-  pub all : steps ≡ done ++ step ∷ rest
-  pub kept : (step ≡ Backup) ⊎ (shown_text new ≡ kept (shown_text old) (reverse done))
+-- what is printed of a trace that was read
+abbrev pub judged_text : Reading Trace → List ℕ
+judged_text (Reads trace) = verdict_text (verdict_on trace)
+judged_text (Refused line why) = []
 
--- the bytes that were read are a script, and it stopped at one of its lines
-pub record Stopped (script old new : List ℕ) : Type 0 where
-  pub steps : List Step
-  pub reads : verdict script ≡ Script steps
-  pub at : StopsAt steps old new
+-- Does the run read its source?
+abbrev pub reads_source : Option Order → Bool
+reads_source None = false
+reads_source (Some Check) = true
+reads_source (Some (Play Replay)) = true
+reads_source (Some (Play Restore)) = true
+reads_source (Some (Play (Made n))) = false
 
--- the bytes that were read are a script, and the file shows what its first lines keep
-pub record Halfway (script old new : List ℕ) : Type 0 where
-  pub steps : List Step
-  pub reads : verdict script ≡ Script steps
-  pub kept : KeepsSome steps old new
+-- the first bad line of what was read, with its reason
+abbrev pub refusal_of : {A : Type 0} → Reading A → Option (ℕ × Why)
+refusal_of (Reads value) = None
+refusal_of (Refused line why) = Some (line, why)
+
+abbrev pub refusal : Option Order → List ℕ → Option (ℕ × Why)
+refusal None input = None
+refusal (Some Check) input = refusal_of (trace_in input)
+refusal (Some (Play task)) input = refusal_of (script_of task input)
+
+-- what is printed at the end, by what was read and by the lives, the oldest first
+abbrev pub printed : Option Order → List ℕ → List Life → List ℕ
+printed None input lives = []
+printed (Some Check) input lives = judged_text (trace_in input)
+printed (Some (Play task)) input lives = text_of task lives
+
+-- Which lives the steps have made, by how the run ended. The lives are read newest first, the steps oldest first.
+abbrev pub FollowTo : End → List (List ℕ) → List Step → List Life → Type 0
+FollowTo Done declared steps lives = FollowsTo AtTheEnd false declared steps lives
+FollowTo WriteFault declared steps lives = FollowsTo AtTheEnd false declared steps lives
+FollowTo OpenFault declared steps lives = FollowsTo AtAnOpening false declared steps lives
+FollowTo NoMemory declared steps lives = FollowsTo ForMemory false declared steps lives
+FollowTo end declared steps lives = ⊥
+
+-- The task's script was planted and its steps made these lives, the newest first, from the moment a on and from the count of
+-- faults `start`; the disk came to the moment b and to the count `count`.
+pub record HavePlayed (picked : ℕ → FileState → List ℕ) (tells : Bool) (past : Past) (task : Task) (input : List ℕ) (end : End) (a start b count : ℕ) (lives : List Life) : Type 0 where
+  pub script : Script
+  pub reads : script_of task input ≡ Reads script
+  pub follow : FollowTo end script.names script.steps lives
+  pub played : ArePlayed picked tells past (reverse script.slots) a start b count lives
+
+-- No call of the disk was made, and there are no lives.
+pub record IsUntouched {D : Type 0} (old new : D) (lives : List Life) : Type 0 where
+  pub same : new ≡ old
+  pub none : lives ≡ []
 
 -- the ends before a device call
 abbrev pub IsBeforeDisk : End → Type 0
@@ -68,7 +111,7 @@ IsSilent Done = ⊥
 IsSilent WriteFault = ⊥
 IsSilent end = Unit {0}
 
--- the ends of reading and judging a source that is no script, or can't be read
+-- the ends of reading and judging a source
 abbrev pub IsOfReading : End → Type 0
 IsOfReading (BadScript line why) = Unit {0}
 IsOfReading ReadFault = Unit {0}
@@ -83,23 +126,25 @@ IsOfPlay NoMemory = Unit {0}
 IsOfPlay OpenFault = Unit {0}
 IsOfPlay end = ⊥
 
--- the ends at which all steps were taken
-abbrev pub IsWritten : End → Type 0
-IsWritten Done = Unit {0}
-IsWritten WriteFault = Unit {0}
-IsWritten end = ⊥
+-- the ends of judging a trace
+abbrev pub IsOfCheck : End → Type 0
+IsOfCheck Usage = ⊥
+IsOfCheck OpenFault = ⊥
+IsOfCheck end = Unit {0}
 
--- the ends that follow on a script alone
-abbrev pub IsOfScript : End → Type 0
-IsOfScript Done = Unit {0}
-IsOfScript WriteFault = Unit {0}
-IsOfScript OpenFault = Unit {0}
-IsOfScript end = ⊥
+-- the ends of printing
+abbrev pub IsOfPrint : End → Type 0
+IsOfPrint Done = Unit {0}
+IsOfPrint WriteFault = Unit {0}
+IsOfPrint NoMemory = Unit {0}
+IsOfPrint end = ⊥
 
--- the bytes are a script
-abbrev pub IsScript : Verdict → Type 0
-IsScript (Script steps) = Unit {0}
-IsScript refused = ⊥
+-- the ends that follow on a valid input alone
+abbrev pub IsOfInput : End → Type 0
+IsOfInput Done = Unit {0}
+IsOfInput WriteFault = Unit {0}
+IsOfInput OpenFault = Unit {0}
+IsOfInput end = ⊥
 
 -- the ends of a run to which nothing was refused and in which no fault came
 abbrev pub IsDoneOrNoMemory : End → Type 0

@@ -1,16 +1,17 @@
-//! `hotexit`: plays a script of edits, backups and reopens of one text on a disk in memory.
+//! `hotexit`: plays a script of editing on a disk, with crashes and restarts, and prints what came of it.
 #![tactic(auto)]
 
-mod frame;
-mod reader;
-mod script;
-mod session;
-mod steps;
+mod ends;
+mod printing;
+mod reading;
 mod whole;
+mod words;
 
-use crate::whole::{End, Finished, Why, top};
+use crate::ends::{name_of, status};
+use crate::whole::{End, Finished, top};
+use crate::words::{DiskChoice, disk_words};
 use hx_io::{StdSink, StdSource};
-use hx_memdisk::{MemDisk, Plan};
+use hx_memdisk::MemDisk;
 use std::alloc::{AllocError, Global};
 use std::io::ErrorKind;
 use std::process::ExitCode;
@@ -22,21 +23,27 @@ const USAGE: &str =
 fn main(rt: HostRuntime) -> ExitCode {
     let alloc = rt.alloc();
     let end = match words_of(&rt) {
-        Ok(words) => match empty_disk(alloc) {
-            Ok(disk) => {
-                // The one source and the one sink. What `top` says of texts is said of the program because nothing
-                // else in it reads standard input or writes to standard output.
-                let mut source = StdSource::new(rt.stdin());
-                let mut sink = StdSink::new(rt.stdout());
-                let Finished { end, disk: _ } = top(alloc, &words, &mut source, &mut sink, disk);
-                end
-            }
-            Err(AllocError) => End::NoMemory,
-        },
+        Ok(words) => run(&rt, alloc, &words),
         Err(end) => end,
     };
     let _ = report(&rt, end);
     ExitCode::from(status(end))
+}
+
+/// The one call, on the one source and the one sink. What `top` says of texts is said of the program because nothing else in
+/// it reads standard input or writes to standard output.
+fn run(rt: &HostRuntime, alloc: Global, words: &[String]) -> End {
+    let Ok(disk) = chosen_disk(alloc, words) else {
+        return End::NoMemory;
+    };
+    let mut source = StdSource::new(rt.stdin());
+    let mut sink = StdSink::new(rt.stdout());
+    let Finished {
+        end,
+        disk: _,
+        lives: _,
+    } = top(alloc, words, &mut source, &mut sink, disk);
+    end
 }
 
 /// The words behind the program's name. A word that is no text is a faulty command line.
@@ -49,11 +56,9 @@ fn words_of(rt: &HostRuntime) -> Result<Vec<String>, End> {
     args.skip(1).collect(rt.alloc()).map_err(|_| End::NoMemory)
 }
 
-fn empty_disk(alloc: Global) -> Result<MemDisk, AllocError> {
-    let plan = Plan {
-        fails: Vec::new(alloc),
-        fuse: None,
-    };
+/// The disk that the words name.
+fn chosen_disk(alloc: Global, words: &[String]) -> Result<MemDisk, AllocError> {
+    let DiskChoice::Memory(plan) = disk_words(alloc, words)?;
     MemDisk::new(alloc, plan)
 }
 
@@ -62,31 +67,11 @@ fn report(rt: &impl Eprint, end: End) -> io::Result<()> {
     match end {
         End::Done => Ok(()),
         End::Usage => eprintln!(rt; "{USAGE}"),
-        End::BadScript { line, why } => {
-            let name = match why {
-                Why::TooLong => "toolong",
-                Why::Header => "header",
-                Why::Form => "form",
-            };
-            eprintln!(rt; "line {line}: {name}")
-        }
+        End::BadScript { line, why } => eprintln!(rt; "line {line}: {}", name_of(why)),
         End::ReadFault => eprintln!(rt; "input failed"),
         End::WriteFault => eprintln!(rt; "output failed"),
         End::NoMemory => eprintln!(rt; "out of memory"),
         End::OpenFault => eprintln!(rt; "the vault could not be opened"),
-    }
-}
-
-/// The exit status.
-fn status(end: End) -> u8 {
-    match end {
-        End::Done => 0,
-        End::Usage => 2,
-        End::BadScript { .. } => 3,
-        End::ReadFault => 4,
-        End::WriteFault => 5,
-        End::NoMemory => 6,
-        End::OpenFault => 7,
     }
 }
 

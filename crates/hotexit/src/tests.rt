@@ -1,265 +1,537 @@
-use crate::status;
-use crate::whole::{End, Finished, Why, top};
-use hx_disk::{Disk, FileNo};
+use crate::whole::{End, Finished, top};
+use crate::words::{DiskChoice, disk_words};
 use hx_io::{MemSink, MemSource};
-use hx_memdisk::{MemDisk, Plan};
+use hx_memdisk::MemDisk;
+use hx_script::Why;
 use std::alloc::{AllocError, Global};
+use std::process::Abort;
 use std::test::Fail;
 
-/// A run of `replay` on a disk in memory: its end, what it wrote, and its disk.
+/// What a run came to.
 #[derive(Drop)]
-struct Replayed {
+struct Ran {
     end: End,
-    out: Vec<u8>,
-    disk: MemDisk,
+    output: Vec<u8>,
+    lives: usize,
 }
 
-/// Which calls of a run fail, and how much its sink takes.
-#[derive(Clone, Copy)]
-struct Faults {
-    reads: Option<u64>,
-    writes: Option<u64>,
+/// A session: the words behind `$`, the script's lines behind `>`, and behind `<` what is to be printed.
+#[derive(Drop)]
+struct Session {
+    words: Vec<String>,
+    script: Vec<u8>,
+    output: Vec<u8>,
+}
+
+fn words_in(alloc: Global, line: &str) -> Result<Vec<String>, AllocError> {
+    let mut words = Vec::new(alloc);
+    for word in line.split(' ') {
+        words.push(String::from_str(alloc, word)?)?;
+    }
+    Ok(words)
+}
+
+fn run_with(
+    alloc: Global,
+    words: &[String],
+    script: &[u8],
+    read_fails: Option<u64>,
     room: usize,
-    device: Option<u64>,
-}
-
-const NONE: Faults = Faults {
-    reads: None,
-    writes: None,
-    room: 4096,
-    device: None,
-};
-
-fn read_fails(call: u64) -> Faults {
-    Faults {
-        reads: Some(call),
-        ..NONE
+) -> Result<Ran, AllocError> {
+    let DiskChoice::Memory(plan) = disk_words(alloc, words)?;
+    let disk = MemDisk::new(alloc, plan)?;
+    let mut fails = Vec::new(alloc);
+    if let Some(call) = read_fails {
+        fails.push(call)?;
     }
+    let mut source = MemSource::new(script.to_vec(alloc)?, fails);
+    let mut sink = MemSink::new(alloc, room, Vec::new(alloc))?;
+    let Finished {
+        end,
+        disk: _,
+        lives,
+    } = top(alloc, words, &mut source, &mut sink, disk);
+    Ok(Ran {
+        end,
+        output: sink.bytes().to_vec(alloc)?,
+        lives: lives.len(),
+    })
 }
 
-fn write_fails(call: u64) -> Faults {
-    Faults {
-        writes: Some(call),
-        ..NONE
-    }
+fn run(alloc: Global, words: &str, script: &str) -> Result<Ran, AllocError> {
+    let words = words_in(alloc, words)?;
+    run_with(alloc, &words, script.as_bytes(), None, 100_000)
 }
 
-fn room_for(room: usize) -> Faults {
-    Faults { room, ..NONE }
+fn plays_as_said(rt: &impl Abort, alloc: Global, session: &Session) -> Result<(), Fail> {
+    let ran = run_with(alloc, &session.words, &session.script, None, 100_000)?;
+    assert_eq!(rt; ran.end, End::Done);
+    assert_eq!(rt; ran.output.as_slice(), session.output.as_slice());
+    Ok(())
 }
 
-fn device_fails(call: u64) -> Faults {
-    Faults {
-        device: Some(call),
-        ..NONE
-    }
-}
-
-fn listed(alloc: Global, call: Option<u64>) -> Result<Vec<u64>, AllocError> {
-    let mut calls = Vec::new(alloc);
-    if let Some(call) = call {
-        calls.push(call)?;
-    }
-    Ok(calls)
-}
-
-fn replay(
-    alloc: Global,
-    words: &[&str],
-    script: &[u8],
-    faults: &Faults,
-) -> Result<Replayed, AllocError> {
-    let plan = Plan {
-        fails: listed(alloc, faults.device)?,
-        fuse: None,
-    };
-    replay_on(alloc, words, script, faults, MemDisk::new(alloc, plan)?)
-}
-
-fn replay_on(
-    alloc: Global,
-    words: &[&str],
-    script: &[u8],
-    faults: &Faults,
-    disk: MemDisk,
-) -> Result<Replayed, AllocError> {
-    let mut texts = Vec::new(alloc);
-    for word in words {
-        texts.push(String::from_str(alloc, word)?)?;
-    }
-    let mut source = MemSource::new(script.to_vec(alloc)?, listed(alloc, faults.reads)?);
-    let mut sink = MemSink::new(alloc, faults.room, listed(alloc, faults.writes)?)?;
-    let Finished { end, disk } = top(alloc, &texts, &mut source, &mut sink, disk);
-    let out = sink.bytes().to_vec(alloc)?;
-    Ok(Replayed { end, out, disk })
-}
-
-const FORM: End = End::BadScript {
-    line: 0,
-    why: Why::Form,
-};
-
-const HEADER: End = End::BadScript {
-    line: 1,
-    why: Why::Header,
-};
-
-#[test]
-fn scripts_are_played(rt: HostRuntime) -> Result<(), Fail> {
-    let table: [(&str, &str); 6] = [
-        (
-            "edit =hello\nbackup\nedit =x\nreopen\n",
-            "restored =hello\n",
-        ),
-        ("", ""),
-        ("reopen\n", "restored none\n"),
-        ("edit =a\nbackup\nedit =\nbackup\nreopen\n", "restored =\n"),
-        (
-            "edit =%00%25\nbackup\nreopen\nbackup\nreopen\n",
-            "restored =%00%25\nrestored =%00%25\n",
-        ),
-        ("reopen\nbackup\nreopen\n", "restored none\nrestored =\n"),
-    ];
-    for (lines, out) in table {
-        let mut script = b"hotexit 0\n".to_vec(rt.alloc())?;
-        script.extend_from_slice(lines.as_bytes())?;
-        let run = replay(rt.alloc(), &["replay"], &script, &NONE)?;
-        assert!(rt; run.end == End::Done, "the end of {lines:?}");
-        assert!(rt;
-            run.out.as_slice() == out.as_bytes(),
-            "the output of {lines:?}"
-        );
-    }
+fn add_line(text: &mut Vec<u8>, line: &str) -> Result<(), AllocError> {
+    text.extend_from_slice(line.as_bytes())?;
+    text.push(b'\n')?;
     Ok(())
 }
 
 #[test]
-fn other_bytes_are_refused(rt: HostRuntime) -> Result<(), Fail> {
-    let table: [(&str, End); 8] = [
-        ("hotexit 0\nedit =%G1\n", FORM),
-        ("hotexit 0", FORM),
-        ("hotexit 0\nreopen", FORM),
-        ("hotexit 0\n\n", FORM),
-        ("hotexit 0\nedit x\n", FORM),
-        ("hotexit 0\nhotexit 0\n", FORM),
-        ("hotexit 1\n", HEADER),
-        ("", HEADER),
-    ];
-    for (script, end) in table {
-        let run = replay(rt.alloc(), &["replay"], script.as_bytes(), &NONE)?;
-        assert!(rt; run.end == end, "the end of {script:?}");
-        assert!(rt; run.out.is_empty());
-    }
-    Ok(())
-}
-
-#[test]
-fn a_first_call_may_fail_for_any_script(rt: HostRuntime) -> Result<(), Fail> {
-    // A sink that fails isn't asked where nothing is printed.
-    let table: [(&str, End); 4] = [
-        ("edit =hello\nbackup\nedit =x\nreopen\n", End::WriteFault),
-        ("", End::Done),
-        ("reopen\n", End::WriteFault),
-        ("edit =%G1\n", FORM),
-    ];
-    for (lines, end) in table {
-        let mut script = b"hotexit 0\n".to_vec(rt.alloc())?;
-        script.extend_from_slice(lines.as_bytes())?;
-        let unread = replay(rt.alloc(), &["replay"], &script, &read_fails(1))?;
-        assert!(rt; unread.end == End::ReadFault, "unread {lines:?}");
-        assert!(rt; unread.out.is_empty());
-        let unwritten = replay(rt.alloc(), &["replay"], &script, &write_fails(1))?;
-        assert!(rt; unwritten.end == end, "unwritten {lines:?}");
-        assert!(rt; unwritten.out.is_empty());
-    }
-    Ok(())
-}
-
-#[test]
-fn a_fault_ends_a_run(rt: HostRuntime) -> Result<(), Fail> {
-    let script = b"hotexit 0\nedit =hello\nbackup\nreopen\nreopen\n".as_slice();
-    let both = "restored =hello\nrestored =hello\n";
-    let table: [(Faults, End, &str); 8] = [
-        (read_fails(1), End::ReadFault, ""),
-        (read_fails(2), End::ReadFault, ""),
-        (write_fails(1), End::WriteFault, ""),
-        (room_for(0), End::WriteFault, ""),
-        (room_for(20), End::WriteFault, "restored =hello\nrest"),
-        (device_fails(1), End::OpenFault, ""),
-        (device_fails(9), End::OpenFault, ""),
-        (device_fails(10), End::Done, both),
-    ];
-    for (faults, end, out) in table {
-        let run = replay(rt.alloc(), &["replay"], script, &faults)?;
-        assert!(rt; run.end == end, "the end before {out:?}");
-        assert!(rt; run.out.as_slice() == out.as_bytes(), "the output {out:?}");
-    }
-    Ok(())
-}
-
-#[test]
-fn other_words_are_refused(rt: HostRuntime) -> Result<(), Fail> {
-    let tables: [&[&str]; 5] = [&[], &["replay", "x"], &["check"], &["Replay"], &["--help"]];
-    for words in tables {
-        let run = replay(rt.alloc(), words, b"hotexit 0\nreopen\n", &NONE)?;
-        assert!(rt; run.end == End::Usage);
-        assert!(rt; run.out.is_empty());
-    }
-    Ok(())
-}
-
-#[test]
-fn a_backup_outlives_its_run(rt: HostRuntime) -> Result<(), Fail> {
+fn sessions(rt: HostRuntime) -> Result<(), Fail> {
     let alloc = rt.alloc();
-    let words = ["replay"];
-    let first = replay(
-        alloc,
-        &words,
-        b"hotexit 0\nedit =kept\nbackup\nedit =lost\n",
-        &NONE,
-    )?;
-    assert_eq!(rt;
-        first.disk.bytes(FileNo::new(0)),
-        b"\0\0\0\0\0\0\0\x04kept".as_slice()
-    );
-    let second = replay_on(alloc, &words, b"hotexit 0\nreopen\n", &NONE, first.disk)?;
-    assert_eq!(rt; second.out.as_slice(), b"restored =kept\n".as_slice());
-    assert_eq!(rt; second.disk.faults(), 0);
-    Ok(())
-}
-
-#[test]
-fn limits_are_the_last_that_pass(rt: HostRuntime) -> Result<(), Fail> {
-    let table: [(&str, usize, End); 4] = [
-        ("backup\n", 9999, End::Done),
-        ("backup\n", 10000, FORM),
-        ("reopen\n", 32, End::Done),
-        ("reopen\n", 33, FORM),
-    ];
-    for (line, count, end) in table {
-        let mut script = b"hotexit 0\n".to_vec(rt.alloc())?;
-        for _ in 0..count {
-            script.extend_from_slice(line.as_bytes())?;
+    let mut session = None;
+    for line in SESSIONS.split('\n') {
+        if let Some(words) = line.strip_prefix("$ ") {
+            if let Some(done) = &session {
+                plays_as_said(&rt, alloc, done)?;
+            }
+            session = Some(Session {
+                words: words_in(alloc, words)?,
+                script: Vec::new(alloc),
+                output: Vec::new(alloc),
+            });
+        } else if let Some(open) = &mut session {
+            if let Some(said) = line.strip_prefix("> ") {
+                add_line(&mut open.script, said)?;
+            } else if let Some(said) = line.strip_prefix("< ") {
+                add_line(&mut open.output, said)?;
+            }
         }
-        let run = replay(rt.alloc(), &["replay"], &script, &NONE)?;
-        assert!(rt; run.end == end, "{count} times {line:?}");
     }
     Ok(())
 }
 
 #[test]
-fn each_end_has_its_status(rt: HostRuntime) {
-    let table = [
-        (End::Done, 0),
-        (End::Usage, 2),
-        (FORM, 3),
-        (HEADER, 3),
-        (End::ReadFault, 4),
-        (End::WriteFault, 5),
-        (End::NoMemory, 6),
-        (End::OpenFault, 7),
-    ];
-    for (end, code) in table {
-        assert_eq!(rt; status(end), code);
+fn ends(rt: HostRuntime) -> Result<(), Fail> {
+    let alloc = rt.alloc();
+    let whole = "hotexit 1\nfile file:///a\nw0 create file:///a\n";
+    for (words, script, end) in [
+        ("replay x", whole, End::Usage),
+        ("--fail 0 replay", whole, End::Usage),
+        ("--fuse 1 --fuse 1 replay", whole, End::Usage),
+        ("made 0", whole, End::Usage),
+        ("made 1001", whole, End::Usage),
+        ("run", whole, End::Usage),
+        ("--fail 1 replay", "hotexit 1\n", End::OpenFault),
+        ("--fail 256 restore", "hotexit 1\n", End::OpenFault),
+        (
+            "replay",
+            "hotexit 1\nfile file:///a\nw0 create file:///a",
+            End::BadScript {
+                line: 3,
+                why: Why::NoEnd,
+            },
+        ),
+        (
+            "restore",
+            whole,
+            End::BadScript {
+                line: 3,
+                why: Why::Place,
+            },
+        ),
+    ] {
+        let ran = run(alloc, words, script)?;
+        assert!(rt; ran.end == end, "the end of {words:?}");
+        assert!(rt; ran.output.is_empty(), "the output of {words:?}");
+        assert_eq!(rt; ran.lives, 0);
     }
+    Ok(())
 }
+
+#[test]
+fn an_opening_behind_a_life_may_fail(rt: HostRuntime) -> Result<(), Fail> {
+    let script =
+        "hotexit 1\nfile file:///a\nw0 create file:///a\nw0 edit file:///a 0 0 =hello\nb0 vault file:///a\nb0 vault file:///a\nb0 vault file:///a\nrestart\n";
+    let ran = run(rt.alloc(), "--fail 263 replay", script)?;
+    assert!(rt; ran.end == End::OpenFault);
+    assert!(rt; ran.output.is_empty());
+    assert_eq!(rt; ran.lives, 1);
+    Ok(())
+}
+
+#[test]
+fn a_stream_may_fail(rt: HostRuntime) -> Result<(), Fail> {
+    let alloc = rt.alloc();
+    let words = words_in(alloc, "replay")?;
+    let script = b"hotexit 1\n".as_slice();
+    for (read_fails, room, end, output) in [
+        (Some(1), 100, End::ReadFault, b"".as_slice()),
+        (Some(2), 100, End::ReadFault, b""),
+        (None, 0, End::WriteFault, b""),
+        (None, 10, End::WriteFault, b"hotexit tr"),
+    ] {
+        let ran = run_with(alloc, &words, script, read_fails, room)?;
+        assert!(rt; ran.end == end, "the end before {output:?}");
+        assert_eq!(rt; ran.output.as_slice(), output);
+    }
+    Ok(())
+}
+
+// Sessions worked by hand. A line of an entry has a tab in it.
+const SESSIONS: &str = "$ replay
+> hotexit 1
+< hotexit trace 1
+< life 1
+< q quit\tquit
+< end script
+$ replay
+> hotexit 1
+> file file:///a
+> w0 create file:///a
+> w0 edit file:///a 0 0 =hello
+> b0 vault file:///a
+> b0 vault file:///a
+> b0 vault file:///a
+> restart
+< hotexit trace 1
+< life 1
+< name file:///a
+< w0 create file:///a\tcreated 1
+< w0 edit file:///a 0 0 =hello\tedited 2
+< b0 vault file:///a\tprepare 2 ok
+< b0 vault file:///a\tbody 2 ok
+< b0 vault file:///a\topen 2 ok
+< q quit\tquit
+< end restart
+< copy file:///a version 2 dirty backup 2
+< life 2
+< name file:///a
+< pair 0 restored file:///a none =hello
+< q quit\tquit
+< end script
+< copy file:///a version 1 dirty backup 1
+$ replay
+> hotexit 1
+> file file:///a
+> w0 create file:///a
+> w0 edit file:///a 0 0 =a
+> b0 vault file:///a
+> b0 vault file:///a
+> b0 vault file:///a
+> w0 save file:///a
+> s0 flush file:///a
+> w0 edit file:///a 0 0 =b
+> s0 flush file:///a
+< hotexit trace 1
+< life 1
+< name file:///a
+< w0 create file:///a\tcreated 1
+< w0 edit file:///a 0 0 =a\tedited 2
+< b0 vault file:///a\tprepare 2 ok
+< b0 vault file:///a\tbody 2 ok
+< b0 vault file:///a\topen 2 ok
+< w0 save file:///a\tstarted 2
+< s0 flush file:///a\tcheck none
+< w0 edit file:///a 0 0 =b\tedited 3
+< s0 flush file:///a\tsaved 2 5000 1
+< q vault file:///a\tprepare 3 ok
+< q vault file:///a\tbody 3 ok
+< q vault file:///a\topen 3 ok
+< q quit\tquit
+< end script
+< copy file:///a version 3 dirty backup 3
+< ticket 6 saved 2
+$ --fuse 267 replay
+> hotexit 1
+> file file:///a
+> w0 create file:///a
+> w0 edit file:///a 0 0 =hello
+> b0 vault file:///a
+> b0 vault file:///a
+> b0 vault file:///a
+> w0 edit file:///a 5 0 =!
+> b0 vault file:///a
+> b0 vault file:///a
+> b0 vault file:///a
+> crash 0
+< hotexit trace 1
+< life 1
+< name file:///a
+< w0 create file:///a\tcreated 1
+< w0 edit file:///a 0 0 =hello\tedited 2
+< b0 vault file:///a\tprepare 2 ok
+< b0 vault file:///a\tbody 2 ok
+< b0 vault file:///a\topen 2 ok
+< w0 edit file:///a 5 0 =!\tedited 3
+< b0 vault file:///a\tprepare 3 ok
+< b0 vault file:///a\tbody 3 ok
+< b0 vault file:///a\topen 3 fault
+< end crash 0
+< copy file:///a version 3 dirty backup 2
+< life 2
+< name file:///a
+< pair 0 restored file:///a none =hello
+< q quit\tquit
+< end script
+< copy file:///a version 1 dirty backup 1
+$ --fuse 267 replay
+> hotexit 1
+> file file:///a
+> w0 create file:///a
+> w0 edit file:///a 0 0 =hello
+> b0 vault file:///a
+> b0 vault file:///a
+> b0 vault file:///a
+> w0 edit file:///a 5 0 =!
+> b0 vault file:///a
+> b0 vault file:///a
+> b0 vault file:///a
+> crash 1
+< hotexit trace 1
+< life 1
+< name file:///a
+< w0 create file:///a\tcreated 1
+< w0 edit file:///a 0 0 =hello\tedited 2
+< b0 vault file:///a\tprepare 2 ok
+< b0 vault file:///a\tbody 2 ok
+< b0 vault file:///a\topen 2 ok
+< w0 edit file:///a 5 0 =!\tedited 3
+< b0 vault file:///a\tprepare 3 ok
+< b0 vault file:///a\tbody 3 ok
+< b0 vault file:///a\topen 3 fault
+< end crash 1
+< copy file:///a version 3 dirty backup 2
+< life 2
+< name file:///a
+< pair 0 restored file:///a none =hello!
+< q quit\tquit
+< end script
+< copy file:///a version 1 dirty backup 1
+$ replay
+> hotexit 1
+> file file:///a
+> w0 create file:///a
+> w0 edit file:///a 0 0 =hello
+> b0 vault file:///a
+> b0 vault file:///a
+> b0 vault file:///a
+> w0 edit file:///a 5 0 =!
+> b0 vault file:///a
+> b0 vault file:///a
+> b0 vault file:///a
+> w0 close file:///a
+> b0 vault file:///a
+> crash 0
+< hotexit trace 1
+< life 1
+< name file:///a
+< w0 create file:///a\tcreated 1
+< w0 edit file:///a 0 0 =hello\tedited 2
+< b0 vault file:///a\tprepare 2 ok
+< b0 vault file:///a\tbody 2 ok
+< b0 vault file:///a\topen 2 ok
+< w0 edit file:///a 5 0 =!\tedited 3
+< b0 vault file:///a\tprepare 3 ok
+< b0 vault file:///a\tbody 3 ok
+< b0 vault file:///a\topen 3 ok
+< w0 close file:///a\tclosed
+< b0 vault file:///a\tfade ok
+< end crash 0
+< life 2
+< name file:///a
+< pair 0 restored file:///a none =hello!
+< q quit\tquit
+< end script
+< copy file:///a version 1 dirty backup 1
+$ replay
+> hotexit 1
+> file file:///a
+> w0 create file:///a
+> w0 edit file:///a 0 0 =hello
+> b0 vault file:///a
+> b0 vault file:///a
+> b0 vault file:///a
+> w0 edit file:///a 5 0 =!
+> b0 vault file:///a
+> b0 vault file:///a
+> b0 vault file:///a
+> w0 close file:///a
+> b0 vault file:///a
+> b0 vault file:///a
+> crash 1
+< hotexit trace 1
+< life 1
+< name file:///a
+< w0 create file:///a\tcreated 1
+< w0 edit file:///a 0 0 =hello\tedited 2
+< b0 vault file:///a\tprepare 2 ok
+< b0 vault file:///a\tbody 2 ok
+< b0 vault file:///a\topen 2 ok
+< w0 edit file:///a 5 0 =!\tedited 3
+< b0 vault file:///a\tprepare 3 ok
+< b0 vault file:///a\tbody 3 ok
+< b0 vault file:///a\topen 3 ok
+< w0 close file:///a\tclosed
+< b0 vault file:///a\tfade ok
+< b0 vault file:///a\tdrop ok
+< end crash 1
+< life 2
+< name file:///a
+< q quit\tquit
+< end script
+$ --fail 271 replay
+> hotexit 1
+> file file:///a
+> w0 create file:///a
+> w0 edit file:///a 0 0 =hello
+> b0 vault file:///a
+> b0 vault file:///a
+> b0 vault file:///a
+> w0 edit file:///a 5 0 =!
+> b0 vault file:///a
+> b0 vault file:///a
+> b0 vault file:///a
+> w0 close file:///a
+> b0 vault file:///a
+> b0 vault file:///a
+> crash 0
+< hotexit trace 1
+< life 1
+< name file:///a
+< w0 create file:///a\tcreated 1
+< w0 edit file:///a 0 0 =hello\tedited 2
+< b0 vault file:///a\tprepare 2 ok
+< b0 vault file:///a\tbody 2 ok
+< b0 vault file:///a\topen 2 ok
+< w0 edit file:///a 5 0 =!\tedited 3
+< b0 vault file:///a\tprepare 3 ok
+< b0 vault file:///a\tbody 3 ok
+< b0 vault file:///a\topen 3 ok
+< w0 close file:///a\tclosed
+< b0 vault file:///a\tfade ok
+< b0 vault file:///a\tdrop fault
+< end crash 0
+< life 2
+< name file:///a
+< pair 0 restored file:///a none =hello!
+< q quit\tquit
+< end script
+< copy file:///a version 1 dirty backup 1
+$ replay
+> hotexit 1
+> file file:///a
+> w0 outside file:///a 5000 =one
+> w0 open file:///a
+> w0 edit file:///a 0 0 =x
+> b0 vault file:///a
+> b0 vault file:///a
+> b0 vault file:///a
+> crash 1
+> w0 outside file:///a 9000 =longer
+> w0 save file:///a
+> s0 flush file:///a
+< hotexit trace 1
+< life 1
+< name file:///a
+< w0 outside file:///a 5000 =one\twritten
+< w0 open file:///a\topened 5000 3
+< w0 edit file:///a 0 0 =x\tedited 2
+< b0 vault file:///a\tprepare 2 ok
+< b0 vault file:///a\tbody 2 ok
+< b0 vault file:///a\topen 2 ok
+< end crash 1
+< copy file:///a version 2 dirty backup 2
+< life 2
+< name file:///a
+< pair 0 restored file:///a 5000 3 =xone
+< w0 outside file:///a 9000 =longer\twritten
+< w0 save file:///a\tstarted 1
+< s0 flush file:///a\tmodified 9000 6
+< q quit\tquit
+< end script
+< copy file:///a version 1 dirty backup 1
+< ticket 2 modified
+$ replay
+> hotexit 1
+> file file:///a
+> slot 1 =%01%FF%FF%FF%FF%FF%FF%FF%FF%00%00%00%1Dfile:///a%20{\"typeId\":\"\"}%0Ahello
+> w0 edit file:///a 0 0 =x
+> b0 vault file:///a
+< hotexit trace 1
+< life 1
+< name file:///a
+< pair 0 restored file:///a none =hello
+< w0 edit file:///a 0 0 =x\tedited 2
+< b0 vault file:///a\tspent
+< q quit\tvetoed file:///a
+< end script
+< copy file:///a version 2 dirty backup 1
+$ restore
+> hotexit 1
+> slot 0 =%01%00%00%00%00%00%00%00%01%00%00%00%1Dfile:///a%20{\"typeId\":\"\"}%0Ahello
+> slot 2 =%01%00%00%00%00%00%00%00%01%00%00%00%1Dfile:///a%20{\"typeId\":\"\"}%0Ahello
+> slot 4 =%01%00%00%00%00%00%00%00%01%00%00%00%03abc
+< pair 0 restored file:///a none =hello
+< pair 1 twin 0
+< pair 2 damaged
+$ made 1
+< made 1
+< entries 27
+< edits 3
+< backups 3
+< drops 0
+< saved 0
+< modified 0
+< idle 5
+< faults 0
+< restored 3
+< dirty 3
+$ check
+> hotexit trace 1
+> life 1
+> name file:///a
+> w0 create file:///a\tcreated 1
+> w0 edit file:///a 0 0 =hello\tedited 2
+> b0 vault file:///a\tprepare 2 ok
+> b0 vault file:///a\tbody 2 ok
+> b0 vault file:///a\topen 2 ok
+> q quit\tquit
+> end restart
+> copy file:///a version 2 dirty backup 2
+> life 2
+> name file:///a
+> pair 0 restored file:///a none =hello
+> q quit\tquit
+> end script
+> copy file:///a version 1 dirty backup 1
+< legal
+$ check
+> hotexit trace 1
+> life 1
+> name file:///a
+> w0 create file:///a\tcreated 1
+> w0 edit file:///a 0 0 =hello\tedited 3
+> b0 vault file:///a\tprepare 2 ok
+> b0 vault file:///a\tbody 2 ok
+> b0 vault file:///a\topen 2 ok
+> q quit\tquit
+> end restart
+> copy file:///a version 2 dirty backup 2
+> life 2
+> name file:///a
+> pair 0 restored file:///a none =hello
+> q quit\tquit
+> end script
+> copy file:///a version 1 dirty backup 1
+< not at 5
+$ check
+> hotexit trace 1
+> life 1
+> name file:///a
+> w0 create file:///a\tcreated 1
+> w0 edit file:///a 0 0 =hello\tedited 2
+> b0 vault file:///a\tprepare 2 ok
+> b0 vault file:///a\tbody 2 ok
+> b0 vault file:///a\topen 2 ok
+> q quit\tquit
+> end restart
+> copy file:///a version 2 dirty backup none
+> life 2
+> name file:///a
+> pair 0 restored file:///a none =hello
+> q quit\tquit
+> end script
+> copy file:///a version 1 dirty backup 1
+< not at 11
+$ end";

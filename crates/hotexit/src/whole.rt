@@ -1,34 +1,28 @@
-ghost use Rattle.std.specs.Prelude.{◌≡◌, ◌≢◌, ◌≤◌, ◌⊎◌, ◌↔◌, ◌++◌, [], true, false, IsTrue, IfOk, IfErr, OnOk, List, ℕ, reverse};
+//! The whole run.
+
+ghost use Rattle.std.specs.Prelude.{◌≡◌, ◌≢◌, ◌≤◌, ◌⊎◌, ◌↔◌, [], true, false, IsTrue, Some, None, ℕ, reverse};
 ghost use Rattle.hx_faults.specs.Faults.{Rose};
 ghost use Rattle.hx_io.specs.Streams.{AddsFront, Grows, added};
-ghost use Rattle.hotexit.specs.Frame.{shown_text};
-ghost use Rattle.hotexit.specs.Meaning.{printed, kept};
-ghost use Rattle.hotexit.specs.Script.{Verdict, Script, Refused, verdict};
-ghost use Rattle.hotexit.specs.Whole.{Played, Halfway, are_replay, IsSilent, IsBeforeDisk, IsOfScript, IsScript, IsDoneOrNoMemory, IsOfReading, IsOfPlay, IsWritten, KeepsSome, StopsAt, Stopped};
-ghost use Rattle.hotexit.specs.declared.whole.Why.{Why};
+ghost use Rattle.hx_lives.specs.Chained.{faults_of};
+ghost use Rattle.hx_play.specs.Played.{ArePlayed};
+ghost use Rattle.hx_script.specs.Scripts.{IsWellMade};
+ghost use Rattle.hx_script.specs.Traces.{trace_in};
+ghost use Rattle.hx_script.specs.declared.why.Why.{Why};
+ghost use Rattle.hotexit.specs.Whole.{FollowTo, HavePlayed, IsBeforeDisk, IsDoneOrNoMemory, IsOfCheck, IsOfInput, IsOfPlay, IsSilent, IsUntouched, judged_text, printed, reads_source, refusal, text_of};
+ghost use Rattle.hotexit.specs.Words.{order_in, texts_of};
+ghost use Rattle.hotexit.specs.declared.words.Order.TheVariants.{Check, Play};
+ghost use Rattle.hotexit.specs.declared.words.Task.{Task};
 
-use crate::frame::RunError;
-use crate::reader::{ScriptError, read_script};
-use crate::script::Step;
-use crate::steps::run_steps;
-use hx_disk::{Disk, FileNo};
-use hx_io::{ReadAllError, Sink, Source, read_all, write_all};
-use std::alloc::Global;
-
-const MAX_SCRIPT: usize = 4_194_304;
-
-/// Why bytes are refused as a script.
-#[derive(Clone, Copy, Debug, PartialEq, Eq)]
-pub enum Why {
-    /// More bytes than a script may have.
-    TooLong,
-
-    /// The first line isn't the header.
-    Header,
-
-    /// The lines behind the header aren't those of a script.
-    Form,
-}
+use crate::printing::{print, print_verdict};
+use crate::reading::{script_for, trace_from};
+use crate::words::{Order, Task, order_in};
+use hx_check::check;
+use hx_disk::Disk;
+use hx_events::Life;
+use hx_io::{Sink, Source};
+use hx_play::{Halt, Played, play_script};
+use hx_script::{Script, Why};
+use std::alloc::{AllocError, Global};
 
 /// How a run ended.
 #[derive(Clone, Copy, Debug, PartialEq, Eq)]
@@ -51,134 +45,147 @@ pub enum End {
     /// Memory ran out.
     NoMemory,
 
-    /// The disk failed.
+    /// The disk failed, while slot files were planted or the vault was opened.
     OpenFault,
 }
 
-/// How a run ended, and its disk.
+/// How a run ended, its disk, and the lives that it led, the oldest first.
 pub struct Finished<D> {
     pub end: End,
     pub disk: D,
+    pub lives: Vec<Life>,
 }
 
-/// The steps of the source's script, or the end that comes in their place.
-fn read_steps<S: Source>(alloc: Global, source: &mut S) -> Result<Vec<Step>, End>
-    ensures script { IfOk result (λ steps. verdict (added (S.given source.old) (S.given source.new)) ≡ Script steps.items) }
-    ensures refused { (line : ℕ) (why : Why) → result ≡ Err (End.BadScript line why) → verdict (added (S.given source.old) (S.given source.new)) ≡ Refused line why }
-    ensures grows { Grows (S.given source.old) (S.given source.new) }
-    ensures told { IsTrue S.tells → IfOk result (λ _. (added (S.given source.old) (S.given source.new) ≡ S.left source.old) × (S.left source.new ≡ [])) }
-    ensures told_refused { IsTrue S.tells → (line : ℕ) (why : Why) → result ≡ Err (End.BadScript line why) → verdict (S.left source.old) ≡ Refused line why }
-    ensures ends { IfErr result IsOfReading }
-    ensures fault { result ≡ Err End.ReadFault → Rose (S.failures source.old) (S.failures source.new) }
-    ensures no_fault { OnOk result (S.failures source.new ≡ S.failures source.old) }
-    ensures later { S.failures source.old ≤ S.failures source.new }
+/// An end before the first device call.
+fn stopped<D>(alloc: Global, end: End, disk: D) -> Finished<D>
+    ensures end { result.end ≡ end }
+    ensures disk { result.disk ≡ disk }
+    ensures lives { result.lives.items ≡ [] }
 {
-    let script = match read_all(alloc, source, MAX_SCRIPT) {
-        Ok(script) => script,
-        Err(ReadAllError::ReadFault) => return Err(End::ReadFault),
-        Err(ReadAllError::TooLong) => return Err(refused(0, Why::TooLong)),
-        Err(ReadAllError::NoMemory) => return Err(End::NoMemory),
-    };
-    match read_script(alloc, &script) {
-        Ok(steps) => Ok(steps),
-        Err(ScriptError::Header) => Err(refused(1, Why::Header)),
-        Err(ScriptError::Form) => Err(refused(0, Why::Form)),
-        Err(ScriptError::NoMemory) => Err(End::NoMemory),
+    Finished {
+        end,
+        disk,
+        lives: Vec::new(alloc),
     }
 }
 
-fn refused(line: u64, why: Why) -> End
-    ensures { result ≡ End.BadScript line why }
-{
-    End::BadScript { line, why }
-}
-
-/// Takes the steps, and writes what they print.
-fn play<K: Sink, D: Disk>(alloc: Global, sink: &mut K, disk: &mut D, steps: Vec<Step>) -> End
-    ensures done { IsTrue D.tells → result ≡ End.Done → added (K.taken sink.old) (K.taken sink.new) ≡ printed (shown_text (D.now disk.old 0).reading) (reverse steps.items) }
-    ensures front { IsTrue D.tells → result ≡ End.WriteFault → AddsFront (printed (shown_text (D.now disk.old 0).reading) (reverse steps.items)) (K.taken sink.old) (K.taken sink.new) }
-    ensures grows { Grows (K.taken sink.old) (K.taken sink.new) }
-    ensures kept { IsTrue D.tells → IsWritten result → shown_text (D.now disk.new 0).reading ≡ kept (shown_text (D.now disk.old 0).reading) (reverse steps.items) }
-    ensures halfway { IsTrue D.tells → result ≡ End.NoMemory → KeepsSome steps.items (D.now disk.old 0).reading (D.now disk.new 0).reading }
-    ensures stopped { IsTrue D.tells → result ≡ End.OpenFault → StopsAt steps.items (D.now disk.old 0).reading (D.now disk.new 0).reading }
-    ensures ends { IsOfPlay result }
+/// Judges the source's trace, and prints the verdict.
+fn judge<S: Source, K: Sink>(alloc: Global, source: &mut S, sink: &mut K) -> End
+    ensures ends { IsOfCheck result }
+    ensures refused { (line : ℕ) (why : Why) → result ≡ End.BadScript line why → refusal (Some Check) (added (S.given source.old) (S.given source.new)) ≡ Some (line, why) }
+    ensures of_input { IsOfInput result → refusal (Some Check) (added (S.given source.old) (S.given source.new)) ≡ None }
+    ensures given { Grows (S.given source.old) (S.given source.new) }
+    ensures told { IsTrue S.tells → IsOfInput result → (added (S.given source.old) (S.given source.new) ≡ S.left source.old) × (S.left source.new ≡ []) }
+    ensures told_refused { IsTrue S.tells → (line : ℕ) (why : Why) → result ≡ End.BadScript line why → refusal (Some Check) (S.left source.old) ≡ Some (line, why) }
+    ensures done { result ≡ End.Done → added (K.taken sink.old) (K.taken sink.new) ≡ judged_text (trace_in (added (S.given source.old) (S.given source.new))) }
+    ensures front { result ≡ End.WriteFault → AddsFront (judged_text (trace_in (added (S.given source.old) (S.given source.new)))) (K.taken sink.old) (K.taken sink.new) }
     ensures silent { IsSilent result → sink.new ≡ sink.old }
-    ensures others { (f : ℕ) → f ≢ 0 → D.now disk.new f ≡ D.now disk.old f }
+    ensures taken { Grows (K.taken sink.old) (K.taken sink.new) }
+    ensures read_fault { result ≡ End.ReadFault → Rose (S.failures source.old) (S.failures source.new) }
     ensures write_fault { result ≡ End.WriteFault → Rose (K.failures sink.old) (K.failures sink.new) }
-    ensures open_fault { result ≡ End.OpenFault → Rose (D.failures disk.old) (D.failures disk.new) }
-    ensures no_fault { result ≡ End.Done → (K.failures sink.new ≡ K.failures sink.old) × (D.failures disk.new ≡ D.failures disk.old) }
-    ensures sink_later { K.failures sink.old ≤ K.failures sink.new }
-    ensures disk_later { D.failures disk.old ≤ D.failures disk.new }
+    ensures no_fault { result ≡ End.Done → (S.failures source.new ≡ S.failures source.old) × (K.failures sink.new ≡ K.failures sink.old) }
 {
-    let out = match run_steps(alloc, disk, FileNo::new(0), steps) {
-        Ok(out) => out,
-        Err(RunError::DiskFault) => return End::OpenFault,
-        Err(RunError::NoMemory) => return End::NoMemory,
+    let trace = match trace_from(alloc, source) {
+        Ok(trace) => trace,
+        Err(end) => return end,
     };
-    match write_all(sink, &out) {
-        Ok(()) => End::Done,
-        Err(_) => End::WriteFault,
+    match check(alloc, &trace) {
+        Ok(verdict) => print_verdict(alloc, sink, verdict),
+        Err(AllocError) => End::NoMemory,
     }
 }
 
-fn is_replay(words: &[String]) -> bool
-    ensures { result ≡ are_replay words.now }
+/// Plays the script and prints its lives.
+fn play<K: Sink, D: Disk>(
+    alloc: Global,
+    task: Task,
+    script: Script,
+    sink: &mut K,
+    disk: D,
+) -> Finished<D>
+    requires { IsWellMade script }
+    ensures ends { IsOfPlay result.end }
+    ensures follow { FollowTo result.end script.names script.steps (reverse result.lives.items) }
+    ensures played { ArePlayed D.picked D.tells (D.past result.disk) (reverse script.slots) (D.time disk) (D.failures disk) (D.time result.disk) (D.failures result.disk) (reverse result.lives.items) }
+    ensures done { result.end ≡ End.Done → added (K.taken sink.old) (K.taken sink.new) ≡ text_of task result.lives.items }
+    ensures front { result.end ≡ End.WriteFault → AddsFront (text_of task result.lives.items) (K.taken sink.old) (K.taken sink.new) }
+    ensures silent { IsSilent result.end → sink.new ≡ sink.old }
+    ensures grows { Grows (K.taken sink.old) (K.taken sink.new) }
+    ensures write_fault { result.end ≡ End.WriteFault → Rose (K.failures sink.old) (K.failures sink.new) }
+    ensures open_fault { result.end ≡ End.OpenFault → Rose (faults_of (D.failures disk) (reverse result.lives.items)) (D.failures result.disk) }
+    ensures no_fault { result.end ≡ End.Done → K.failures sink.new ≡ K.failures sink.old }
+    ensures later { K.failures sink.old ≤ K.failures sink.new }
 {
-    match words {
-        [word] => word.as_bytes() == b"replay".as_slice(),
-        _ => false,
+    let Played { halt, disk, lives } = play_script(alloc, script, false, disk);
+    let lives = lives.into_vec();
+    match halt {
+        Halt::Done => {
+            let end = print(alloc, task, sink, &lives);
+            Finished { end, disk, lives }
+        }
+        Halt::OpenFault => Finished {
+            end: End::OpenFault,
+            disk,
+            lives,
+        },
+        Halt::NoMemory => Finished {
+            end: End::NoMemory,
+            disk,
+            lives,
+        },
     }
 }
 
-/// Plays the script of the source on file 0 of the disk, and writes what it prints.
+/// Does what the words ask for, on this disk.
 ///
-/// The words are the one word `replay`. The whole script is read and judged before the first device call, and the
-/// output is written after the last one.
-///
-/// What is said of the bytes that were read and written holds of every source and every sink, the standard streams too.
+/// The whole source is read and judged before the first device call, and the text is written after the last one. What is said of
+/// the bytes that were read and written holds of every source and every sink, the standard streams too.
 pub fn top<S: Source, K: Sink, D: Disk>(
     alloc: Global,
     words: &[String],
     source: &mut S,
     sink: &mut K,
-    mut disk: D,
+    disk: D,
 ) -> Finished<D>
-    // What each end says of the bytes that were read, of what was written and of what the disk holds.
-    ensures usage { (result.end ≡ End.Usage) ↔ (are_replay words.now ≡ false) }
-    ensures unasked { result.end ≡ End.Usage → (source.new ≡ source.old) × (sink.new ≡ sink.old) }
+    // What was read, and when it is refused.
+    ensures usage { (result.end ≡ End.Usage) ↔ (order_in (texts_of words.now) ≡ None) }
+    ensures unasked { reads_source (order_in (texts_of words.now)) ≡ false → source.new ≡ source.old }
     ensures given { Grows (S.given source.old) (S.given source.new) }
+    ensures bad_script { (line : ℕ) (why : Why) → result.end ≡ End.BadScript line why → refusal (order_in (texts_of words.now)) (added (S.given source.old) (S.given source.new)) ≡ Some (line, why) }
+    ensures of_input { IsOfInput result.end → refusal (order_in (texts_of words.now)) (added (S.given source.old) (S.given source.new)) ≡ None }
+
+    // What was written: all of the text, or a front of it, or nothing.
     ensures taken { Grows (K.taken sink.old) (K.taken sink.new) }
-    ensures bad_script { (line : ℕ) (why : Why) → result.end ≡ End.BadScript line why → verdict (added (S.given source.old) (S.given source.new)) ≡ Refused line why }
-    ensures done { IsTrue D.tells → result.end ≡ End.Done → Played (added (S.given source.old) (S.given source.new)) (D.now disk 0).reading (D.now result.disk 0).reading (added (K.taken sink.old) (K.taken sink.new)) }
-    ensures of_script { IsOfScript result.end → IsScript (verdict (added (S.given source.old) (S.given source.new))) }
-    ensures front { IsTrue D.tells → result.end ≡ End.WriteFault → (out : List ℕ) × AddsFront out (K.taken sink.old) (K.taken sink.new) × Played (added (S.given source.old) (S.given source.new)) (D.now disk 0).reading (D.now result.disk 0).reading out }
+    ensures done { result.end ≡ End.Done → added (K.taken sink.old) (K.taken sink.new) ≡ printed (order_in (texts_of words.now)) (added (S.given source.old) (S.given source.new)) result.lives.items }
+    ensures front { result.end ≡ End.WriteFault → AddsFront (printed (order_in (texts_of words.now)) (added (S.given source.old) (S.given source.new)) result.lives.items) (K.taken sink.old) (K.taken sink.new) }
     ensures silent { IsSilent result.end → sink.new ≡ sink.old }
-    ensures untouched { IsBeforeDisk result.end → result.disk ≡ disk }
-    ensures halfway { IsTrue D.tells → result.end ≡ End.NoMemory → (result.disk ≡ disk) ⊎ Halfway (added (S.given source.old) (S.given source.new)) (D.now disk 0).reading (D.now result.disk 0).reading }
-    ensures stopped { IsTrue D.tells → result.end ≡ End.OpenFault → Stopped (added (S.given source.old) (S.given source.new)) (D.now disk 0).reading (D.now result.disk 0).reading }
-    ensures others { (f : ℕ) → f ≢ 0 → D.now result.disk f ≡ D.now disk f }
+
+    // Which lives there are, what holds of them and of the disk before and behind them, and whatever a crash leaves.
+    ensures played { (task : Task) → order_in (texts_of words.now) ≡ Some (Play task) → IsOfInput result.end → HavePlayed D.picked D.tells (D.past result.disk) task (added (S.given source.old) (S.given source.new)) result.end (D.time disk) (D.failures disk) (D.time result.disk) (D.failures result.disk) (reverse result.lives.items) }
+    ensures memory { (task : Task) → order_in (texts_of words.now) ≡ Some (Play task) → result.end ≡ End.NoMemory → IsUntouched disk result.disk result.lives.items ⊎ HavePlayed D.picked D.tells (D.past result.disk) task (added (S.given source.old) (S.given source.new)) End.NoMemory (D.time disk) (D.failures disk) (D.time result.disk) (D.failures result.disk) (reverse result.lives.items) }
+    ensures judged { order_in (texts_of words.now) ≡ Some Check → IsUntouched disk result.disk result.lives.items }
+    ensures untouched { IsBeforeDisk result.end → IsUntouched disk result.disk result.lives.items }
 
     // Where the source tells what is left, it was read to its end, or what is left is refused as a whole.
-    ensures read_to_end { IsTrue S.tells → IsOfScript result.end → (added (S.given source.old) (S.given source.new) ≡ S.left source.old) × (S.left source.new ≡ []) }
-    ensures refused_whole { IsTrue S.tells → (line : ℕ) (why : Why) → result.end ≡ End.BadScript line why → verdict (S.left source.old) ≡ Refused line why }
+    ensures read_to_end { IsTrue S.tells → IsOfInput result.end → reads_source (order_in (texts_of words.now)) ≡ true → (added (S.given source.old) (S.given source.new) ≡ S.left source.old) × (S.left source.new ≡ []) }
+    ensures refused_whole { IsTrue S.tells → (line : ℕ) (why : Why) → result.end ≡ End.BadScript line why → refusal (order_in (texts_of words.now)) (S.left source.old) ≡ Some (line, why) }
 
-    // Faults have their causes, and nothing else keeps a script from its end but memory.
+    // Faults have their causes, and nothing else keeps a valid input from its end but memory.
     ensures read_fault { result.end ≡ End.ReadFault → Rose (S.failures source.old) (S.failures source.new) }
     ensures write_fault { result.end ≡ End.WriteFault → Rose (K.failures sink.old) (K.failures sink.new) }
-    ensures open_fault { result.end ≡ End.OpenFault → Rose (D.failures disk) (D.failures result.disk) }
-    ensures no_fault { result.end ≡ End.Done → (S.failures source.new ≡ S.failures source.old) × (K.failures sink.new ≡ K.failures sink.old) × (D.failures result.disk ≡ D.failures disk) }
-    ensures complete { IsTrue S.tells → are_replay words.now ≡ true → IsScript (verdict (S.left source.old)) → (Rose (S.failures source.old) (S.failures source.new) → ⊥) → (Rose (K.failures sink.old) (K.failures sink.new) → ⊥) → (Rose (D.failures disk) (D.failures result.disk) → ⊥) → IsDoneOrNoMemory result.end }
+    ensures open_fault { result.end ≡ End.OpenFault → Rose (faults_of (D.failures disk) (reverse result.lives.items)) (D.failures result.disk) }
+    ensures no_fault { result.end ≡ End.Done → (S.failures source.new ≡ S.failures source.old) × (K.failures sink.new ≡ K.failures sink.old) }
+    ensures complete { IsTrue S.tells → order_in (texts_of words.now) ≢ None → refusal (order_in (texts_of words.now)) (S.left source.old) ≡ None → (Rose (S.failures source.old) (S.failures source.new) → ⊥) → (Rose (K.failures sink.old) (K.failures sink.new) → ⊥) → (Rose (faults_of (D.failures disk) (reverse result.lives.items)) (D.failures result.disk) → ⊥) → IsDoneOrNoMemory result.end }
 {
-    if !is_replay(words) {
-        return Finished {
-            end: End::Usage,
-            disk,
-        };
+    match order_in(words) {
+        None => stopped(alloc, End::Usage, disk),
+        Some(Order::Check) => {
+            let end = judge(alloc, source, sink);
+            stopped(alloc, end, disk)
+        }
+        Some(Order::Play(task)) => match script_for(alloc, task, source) {
+            Ok(script) => play(alloc, task, script, sink, disk),
+            Err(end) => stopped(alloc, end, disk),
+        },
     }
-    let steps = match read_steps(alloc, source) {
-        Ok(steps) => steps,
-        Err(end) => return Finished { end, disk },
-    };
-    let end = play(alloc, sink, &mut disk, steps);
-    Finished { end, disk }
 }

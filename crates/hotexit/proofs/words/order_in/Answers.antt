@@ -1,0 +1,46 @@
+use Rattle.std.proofs.Common.{rules, ◌≡◌, ◌∙◌, ◌+◌, List, String, cond, count_by, Bool, None, if◌then◌else◌, length, drop, ap, sym, arith}
+use Rattle.std.specs.declared.alloc.Global.{Global}
+use Rattle.hotexit.specs.declared.words.Setting.{Setting}
+use Rattle.hotexit.specs.Words.{command_in, first_setting, is_fail, is_fuse, order_of, settings_before, texts_of}
+use Rattle.hotexit.proofs.Settings.{More, count_next, counts_once, more, order_is}
+use Rattle.hotexit.proofs.words.order_in.Goals as goal
+
+pub settings-preserved : goal.settings-preserved
+settings-preserved c =
+    let rest : List (String Global) = c.settings.rest.now in
+    let s : Setting = c.in-Some.setting in
+    let next : More rest s = more rest s (sym c.in-Some.ensures.first) in
+    let behind : c.behind_setting-rest.result.now ≡ drop 2 rest = c.behind_setting-rest.ensures in
+    record {
+      fails =
+          let one : c.from-fails.result ≡ cond (is_fail s) 1 0 = search rules in
+          let counted = count_next is_fail rest s c.settings.fails (count_by is_fail (settings_before (texts_of c.args.words.now))) next c.settings.invariant.fails in
+          let left : count_by is_fail (settings_before (texts_of c.behind_setting-rest.result.now)) ≡ count_by is_fail (settings_before (texts_of (drop 2 rest))) = ap (λ (ws : List (String Global)). count_by is_fail (settings_before (texts_of ws))) behind in
+          omega (arith, one, counted, left);
+      fuses =
+          let one : c.from-fuses.result ≡ cond (is_fuse s) 1 0 = search rules in
+          let counted = count_next is_fuse rest s c.settings.fuses (count_by is_fuse (settings_before (texts_of c.args.words.now))) next c.settings.invariant.fuses in
+          let left : count_by is_fuse (settings_before (texts_of c.behind_setting-rest.result.now)) ≡ count_by is_fuse (settings_before (texts_of (drop 2 rest))) = ap (λ (ws : List (String Global)). count_by is_fuse (settings_before (texts_of ws))) behind in
+          omega (arith, one, counted, left);
+      command = ap (λ (ws : List (String Global)). command_in (texts_of ws)) behind ∙ sym next.command ∙ c.settings.invariant.command;
+      left =
+          let fail : c.from-fails.result ≡ cond (is_fail s) 1 0 = search rules in
+          let fuse : c.from-fuses.result ≡ cond (is_fuse s) 1 0 = search rules in
+          let one : cond (is_fail s) 1 0 + cond (is_fuse s) 1 0 ≡ 1 = counts_once s in
+          omega (arith, fail, fuse, one, ap length behind, next.left, c.settings.invariant.left);
+    }
+
+pub returns-then-are_few-clause-order : goal.returns-then-are_few-clause-order
+returns-then-are_few-clause-order c =
+    let rest : List (String Global) = c.settings.rest.now in
+    let none : first_setting (texts_of rest) ≡ None = search rules in
+    c.order_of.ensures.order
+    ∙ sym (order_is c.args.words.now rest c.settings.fails c.settings.fuses none c.settings.invariant.fails c.settings.invariant.fuses c.settings.invariant.command
+    ∙ ap (λ (b : Bool). if b then order_of (texts_of rest) else None) (sym c.are_few.ensures ∙ c.if-are_few.true))
+
+pub returns-else-are_few-clause-order : goal.returns-else-are_few-clause-order
+returns-else-are_few-clause-order c =
+    let rest : List (String Global) = c.settings.rest.now in
+    let none : first_setting (texts_of rest) ≡ None = search rules in
+    sym (order_is c.args.words.now rest c.settings.fails c.settings.fuses none c.settings.invariant.fails c.settings.invariant.fuses c.settings.invariant.command
+    ∙ ap (λ (b : Bool). if b then order_of (texts_of rest) else None) (sym c.are_few.ensures ∙ c.if-are_few.false))

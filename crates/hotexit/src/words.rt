@@ -1,0 +1,216 @@
+//! The words behind the program's name.
+
+ghost use Rattle.std.specs.Prelude.{◌≡◌, ◌≤◌, ◌&&◌, ◌++◌, nat_le, [], ◌∷◌, drop, length, None, IfOk, OnOk, IfSome};
+ghost use Rattle.hx_base.specs.Decimals.{decimal_value};
+ghost use Rattle.hotexit.specs.Words.{IsChosen, IsOrder, fails_of, first_setting, fuse_of, is_fail, is_fuse, later_of, made_order, order_in, order_of, plain_order, setting_in, setting_of, settings_before, texts_of};
+
+use hx_base::read_decimal;
+use hx_memdisk::Plan;
+use std::alloc::{AllocError, Global};
+
+const MOST_FAILS: usize = 64;
+
+const MOST_FUSES: usize = 1;
+
+/// A word of the disk, with its number.
+#[derive(Clone, Copy, Debug, PartialEq, Eq)]
+pub enum Setting {
+    /// The device call with this number fails.
+    Fail(u64),
+
+    /// Every call behind the one with this number fails.
+    Fuse(u64),
+}
+
+/// A script to be played, and what is printed of it.
+#[derive(Clone, Copy, Debug, PartialEq, Eq)]
+pub enum Task {
+    /// The source's script; its lives are printed.
+    Replay,
+
+    /// The source's script, which only declares and plants; what the vault restores is printed.
+    Restore,
+
+    /// The script that is generated from this number, from 1 to 1,000; counts are printed.
+    Made(u32),
+}
+
+/// What the program is asked for.
+#[derive(Clone, Copy, Debug, PartialEq, Eq)]
+pub enum Order {
+    /// The source's trace is judged.
+    Check,
+
+    Play(Task),
+}
+
+/// The disk that the words name.
+#[derive(Drop)]
+pub enum DiskChoice {
+    /// One in memory, which fails as it is planned.
+    Memory(Plan),
+}
+
+fn setting_of(word: &[u8], number: u64) -> Option<Setting>
+    ensures { result ≡ setting_of word.now number }
+{
+    if word == b"--fail".as_slice() && number > 0 {
+        Some(Setting::Fail(number))
+    } else if word == b"--fuse".as_slice() {
+        Some(Setting::Fuse(number))
+    } else {
+        None
+    }
+}
+
+fn setting_in(word: &[u8], number: &[u8]) -> Option<Setting>
+    ensures { result ≡ setting_in word.now number.now }
+{
+    let number = read_decimal(number)?;
+    setting_of(word, number)
+}
+
+fn made_order(number: &[u8]) -> Option<Order>
+    ensures task { IfSome result IsOrder }
+    ensures order { result ≡ made_order (decimal_value number.now) }
+{
+    let number = read_decimal(number)?;
+    if number > 0 && number <= 1000 {
+        Some(Order::Play(Task::Made(number as u32)))
+    } else {
+        None
+    }
+}
+
+fn plain_order(word: &[u8]) -> Option<Order>
+    ensures task { IfSome result IsOrder }
+    ensures order { result ≡ plain_order word.now }
+{
+    if word == b"replay".as_slice() {
+        Some(Order::Play(Task::Replay))
+    } else if word == b"restore".as_slice() {
+        Some(Order::Play(Task::Restore))
+    } else if word == b"check".as_slice() {
+        Some(Order::Check)
+    } else {
+        None
+    }
+}
+
+fn order_of(command: &[String]) -> Option<Order>
+    ensures task { IfSome result IsOrder }
+    ensures order { result ≡ order_of (texts_of command.now) }
+{
+    match command {
+        [word] => plain_order(word.as_bytes()),
+        [word, number] => {
+            if word.as_bytes() == b"made".as_slice() {
+                made_order(number.as_bytes())
+            } else {
+                None
+            }
+        }
+        _ => None,
+    }
+}
+
+fn first_setting(words: &[String]) -> Option<Setting>
+    ensures first { result ≡ first_setting (texts_of words.now) }
+    ensures two { IfSome result (λ _. 2 ≤ length words.now) }
+{
+    match words {
+        [word, number, ..] => setting_in(word.as_bytes(), number.as_bytes()),
+        _ => None,
+    }
+}
+
+fn behind_setting(words: &[String]) -> &[String]
+    requires { 2 ≤ length words.now }
+    ensures { result.now ≡ drop 2 words.now }
+{
+    &words[2..]
+}
+
+fn is_fail(setting: Setting) -> bool
+    ensures { result ≡ is_fail setting }
+{
+    matches!(setting, Setting::Fail(_))
+}
+
+fn is_fuse(setting: Setting) -> bool
+    ensures { result ≡ is_fuse setting }
+{
+    matches!(setting, Setting::Fuse(_))
+}
+
+fn are_few(fails: usize, fuses: usize) -> bool
+    ensures { result ≡ (nat_le fails 64 && nat_le fuses 1) }
+{
+    fails <= MOST_FAILS && fuses <= MOST_FUSES
+}
+
+/// What the words ask for, or none exactly where they aren't a command line.
+pub fn order_in(words: &[String]) -> Option<Order>
+    ensures task { IfSome result IsOrder }
+    ensures order { result ≡ order_in (texts_of words.now) }
+{
+    let mut fails = 0;
+    let mut fuses = 0;
+    let mut rest = words;
+    'settings: while let Some(setting) = first_setting(rest) {
+        fails += usize::from(is_fail(setting));
+        fuses += usize::from(is_fuse(setting));
+        rest = behind_setting(rest);
+    }
+    if are_few(fails, fuses) {
+        order_of(rest)
+    } else {
+        None
+    }
+}
+
+fn add_setting(plan: &mut Plan, setting: Setting) -> Result<(), AllocError>
+    ensures fails { OnOk result (plan.new.fails.items ≡ plan.old.fails.items ++ fails_of (setting ∷ [])) }
+    ensures fuse { OnOk result (plan.new.fuse ≡ later_of plan.old.fuse (fuse_of (setting ∷ []))) }
+{
+    match setting {
+        Setting::Fail(number) => plan.fails.push(number)?,
+        Setting::Fuse(number) => plan.fuse = Some(number),
+    }
+    Ok(())
+}
+
+fn planned(alloc: Global, words: &[String]) -> Result<Plan, AllocError>
+    ensures fails { IfOk result (λ plan. plan.fails.items ≡ fails_of (settings_before (texts_of words.now))) }
+    ensures fuse { IfOk result (λ plan. plan.fuse ≡ fuse_of (settings_before (texts_of words.now))) }
+{
+    let mut plan = empty_plan(alloc);
+    let mut rest = words;
+    'settings: while let Some(setting) = first_setting(rest) {
+        add_setting(&mut plan, setting)?;
+        rest = behind_setting(rest);
+    }
+    Ok(plan)
+}
+
+fn empty_plan(alloc: Global) -> Plan
+    ensures fails { result.fails.items ≡ [] }
+    ensures fuse { result.fuse ≡ None }
+{
+    Plan {
+        fails: Vec::new(alloc),
+        fuse: None,
+    }
+}
+
+/// The disk that the words name, and one in memory that never fails where they aren't a command line.
+pub fn disk_words(alloc: Global, words: &[String]) -> Result<DiskChoice, AllocError>
+    ensures { IfOk result (IsChosen (texts_of words.now)) }
+{
+    let plan = if order_in(words).is_some() {
+        planned(alloc, words)?
+    } else {
+        empty_plan(alloc)
+    };
+    Ok(DiskChoice::Memory(plan))
+}
