@@ -4,6 +4,10 @@
 mod ends;
 mod printing;
 mod reading;
+#[cfg(test)]
+mod sessions_of_backups;
+#[cfg(test)]
+mod sessions_of_saves;
 mod whole;
 mod words;
 

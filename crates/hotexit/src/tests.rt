@@ -1,3 +1,5 @@
+use crate::sessions_of_backups::BACKUPS;
+use crate::sessions_of_saves::SAVES;
 use crate::whole::{End, Finished, top};
 use crate::words::{DiskChoice, disk_words};
 use hx_io::{MemSink, MemSource};
@@ -63,10 +65,15 @@ fn run(alloc: Global, words: &str, script: &str) -> Result<Ran, AllocError> {
     run_with(alloc, &words, script.as_bytes(), None, 100_000)
 }
 
+// What a replay prints is a legal trace.
 fn plays_as_said(rt: &impl Abort, alloc: Global, session: &Session) -> Result<(), Fail> {
     let ran = run_with(alloc, &session.words, &session.script, None, 100_000)?;
     assert_eq!(rt; ran.end, End::Done);
     assert_eq!(rt; ran.output.as_slice(), session.output.as_slice());
+    if ran.output.starts_with(b"hotexit trace 1\n") {
+        let judged = run_with(alloc, &words_in(alloc, "check")?, &ran.output, None, 100)?;
+        assert_eq!(rt; judged.output.as_slice(), b"legal\n".as_slice());
+    }
     Ok(())
 }
 
@@ -76,14 +83,13 @@ fn add_line(text: &mut Vec<u8>, line: &str) -> Result<(), AllocError> {
     Ok(())
 }
 
-#[test]
-fn sessions(rt: HostRuntime) -> Result<(), Fail> {
-    let alloc = rt.alloc();
+// Plays each session of the text.
+fn play_all(rt: &impl Abort, alloc: Global, text: &str) -> Result<(), Fail> {
     let mut session = None;
-    for line in SESSIONS.split('\n') {
+    for line in text.split('\n') {
         if let Some(words) = line.strip_prefix("$ ") {
             if let Some(done) = &session {
-                plays_as_said(&rt, alloc, done)?;
+                plays_as_said(rt, alloc, done)?;
             }
             session = Some(Session {
                 words: words_in(alloc, words)?,
@@ -98,7 +104,20 @@ fn sessions(rt: HostRuntime) -> Result<(), Fail> {
             }
         }
     }
-    Ok(())
+    match &session {
+        Some(done) => plays_as_said(rt, alloc, done),
+        None => Ok(()),
+    }
+}
+
+#[test]
+fn sessions_of_saves(rt: HostRuntime) -> Result<(), Fail> {
+    play_all(&rt, rt.alloc(), SAVES)
+}
+
+#[test]
+fn sessions_of_backups(rt: HostRuntime) -> Result<(), Fail> {
+    play_all(&rt, rt.alloc(), BACKUPS)
 }
 
 #[test]
@@ -167,371 +186,3 @@ fn a_stream_may_fail(rt: HostRuntime) -> Result<(), Fail> {
     }
     Ok(())
 }
-
-// Sessions worked by hand. A line of an entry has a tab in it.
-const SESSIONS: &str = "$ replay
-> hotexit 1
-< hotexit trace 1
-< life 1
-< q quit\tquit
-< end script
-$ replay
-> hotexit 1
-> file file:///a
-> w0 create file:///a
-> w0 edit file:///a 0 0 =hello
-> b0 vault file:///a
-> b0 vault file:///a
-> b0 vault file:///a
-> restart
-< hotexit trace 1
-< life 1
-< name file:///a
-< w0 create file:///a\tcreated 1
-< w0 edit file:///a 0 0 =hello\tedited 2
-< b0 vault file:///a\tprepare 2 ok
-< b0 vault file:///a\tbody 2 ok
-< b0 vault file:///a\topen 2 ok
-< q quit\tquit
-< end restart
-< copy file:///a version 2 dirty backup 2
-< life 2
-< name file:///a
-< pair 0 restored file:///a none =hello
-< q quit\tquit
-< end script
-< copy file:///a version 1 dirty backup 1
-$ replay
-> hotexit 1
-> file file:///a
-> w0 create file:///a
-> w0 edit file:///a 0 0 =a
-> b0 vault file:///a
-> b0 vault file:///a
-> b0 vault file:///a
-> w0 save file:///a
-> s0 flush file:///a
-> w0 edit file:///a 0 0 =b
-> s0 flush file:///a
-< hotexit trace 1
-< life 1
-< name file:///a
-< w0 create file:///a\tcreated 1
-< w0 edit file:///a 0 0 =a\tedited 2
-< b0 vault file:///a\tprepare 2 ok
-< b0 vault file:///a\tbody 2 ok
-< b0 vault file:///a\topen 2 ok
-< w0 save file:///a\tstarted 2
-< s0 flush file:///a\tcheck none
-< w0 edit file:///a 0 0 =b\tedited 3
-< s0 flush file:///a\tsaved 2 5000 1
-< q vault file:///a\tprepare 3 ok
-< q vault file:///a\tbody 3 ok
-< q vault file:///a\topen 3 ok
-< q quit\tquit
-< end script
-< copy file:///a version 3 dirty backup 3
-< ticket 6 saved 2
-$ --fuse 267 replay
-> hotexit 1
-> file file:///a
-> w0 create file:///a
-> w0 edit file:///a 0 0 =hello
-> b0 vault file:///a
-> b0 vault file:///a
-> b0 vault file:///a
-> w0 edit file:///a 5 0 =!
-> b0 vault file:///a
-> b0 vault file:///a
-> b0 vault file:///a
-> crash 0
-< hotexit trace 1
-< life 1
-< name file:///a
-< w0 create file:///a\tcreated 1
-< w0 edit file:///a 0 0 =hello\tedited 2
-< b0 vault file:///a\tprepare 2 ok
-< b0 vault file:///a\tbody 2 ok
-< b0 vault file:///a\topen 2 ok
-< w0 edit file:///a 5 0 =!\tedited 3
-< b0 vault file:///a\tprepare 3 ok
-< b0 vault file:///a\tbody 3 ok
-< b0 vault file:///a\topen 3 fault
-< end crash 0
-< copy file:///a version 3 dirty backup 2
-< life 2
-< name file:///a
-< pair 0 restored file:///a none =hello
-< q quit\tquit
-< end script
-< copy file:///a version 1 dirty backup 1
-$ --fuse 267 replay
-> hotexit 1
-> file file:///a
-> w0 create file:///a
-> w0 edit file:///a 0 0 =hello
-> b0 vault file:///a
-> b0 vault file:///a
-> b0 vault file:///a
-> w0 edit file:///a 5 0 =!
-> b0 vault file:///a
-> b0 vault file:///a
-> b0 vault file:///a
-> crash 1
-< hotexit trace 1
-< life 1
-< name file:///a
-< w0 create file:///a\tcreated 1
-< w0 edit file:///a 0 0 =hello\tedited 2
-< b0 vault file:///a\tprepare 2 ok
-< b0 vault file:///a\tbody 2 ok
-< b0 vault file:///a\topen 2 ok
-< w0 edit file:///a 5 0 =!\tedited 3
-< b0 vault file:///a\tprepare 3 ok
-< b0 vault file:///a\tbody 3 ok
-< b0 vault file:///a\topen 3 fault
-< end crash 1
-< copy file:///a version 3 dirty backup 2
-< life 2
-< name file:///a
-< pair 0 restored file:///a none =hello!
-< q quit\tquit
-< end script
-< copy file:///a version 1 dirty backup 1
-$ replay
-> hotexit 1
-> file file:///a
-> w0 create file:///a
-> w0 edit file:///a 0 0 =hello
-> b0 vault file:///a
-> b0 vault file:///a
-> b0 vault file:///a
-> w0 edit file:///a 5 0 =!
-> b0 vault file:///a
-> b0 vault file:///a
-> b0 vault file:///a
-> w0 close file:///a
-> b0 vault file:///a
-> crash 0
-< hotexit trace 1
-< life 1
-< name file:///a
-< w0 create file:///a\tcreated 1
-< w0 edit file:///a 0 0 =hello\tedited 2
-< b0 vault file:///a\tprepare 2 ok
-< b0 vault file:///a\tbody 2 ok
-< b0 vault file:///a\topen 2 ok
-< w0 edit file:///a 5 0 =!\tedited 3
-< b0 vault file:///a\tprepare 3 ok
-< b0 vault file:///a\tbody 3 ok
-< b0 vault file:///a\topen 3 ok
-< w0 close file:///a\tclosed
-< b0 vault file:///a\tfade ok
-< end crash 0
-< life 2
-< name file:///a
-< pair 0 restored file:///a none =hello!
-< q quit\tquit
-< end script
-< copy file:///a version 1 dirty backup 1
-$ replay
-> hotexit 1
-> file file:///a
-> w0 create file:///a
-> w0 edit file:///a 0 0 =hello
-> b0 vault file:///a
-> b0 vault file:///a
-> b0 vault file:///a
-> w0 edit file:///a 5 0 =!
-> b0 vault file:///a
-> b0 vault file:///a
-> b0 vault file:///a
-> w0 close file:///a
-> b0 vault file:///a
-> b0 vault file:///a
-> crash 1
-< hotexit trace 1
-< life 1
-< name file:///a
-< w0 create file:///a\tcreated 1
-< w0 edit file:///a 0 0 =hello\tedited 2
-< b0 vault file:///a\tprepare 2 ok
-< b0 vault file:///a\tbody 2 ok
-< b0 vault file:///a\topen 2 ok
-< w0 edit file:///a 5 0 =!\tedited 3
-< b0 vault file:///a\tprepare 3 ok
-< b0 vault file:///a\tbody 3 ok
-< b0 vault file:///a\topen 3 ok
-< w0 close file:///a\tclosed
-< b0 vault file:///a\tfade ok
-< b0 vault file:///a\tdrop ok
-< end crash 1
-< life 2
-< name file:///a
-< q quit\tquit
-< end script
-$ --fail 271 replay
-> hotexit 1
-> file file:///a
-> w0 create file:///a
-> w0 edit file:///a 0 0 =hello
-> b0 vault file:///a
-> b0 vault file:///a
-> b0 vault file:///a
-> w0 edit file:///a 5 0 =!
-> b0 vault file:///a
-> b0 vault file:///a
-> b0 vault file:///a
-> w0 close file:///a
-> b0 vault file:///a
-> b0 vault file:///a
-> crash 0
-< hotexit trace 1
-< life 1
-< name file:///a
-< w0 create file:///a\tcreated 1
-< w0 edit file:///a 0 0 =hello\tedited 2
-< b0 vault file:///a\tprepare 2 ok
-< b0 vault file:///a\tbody 2 ok
-< b0 vault file:///a\topen 2 ok
-< w0 edit file:///a 5 0 =!\tedited 3
-< b0 vault file:///a\tprepare 3 ok
-< b0 vault file:///a\tbody 3 ok
-< b0 vault file:///a\topen 3 ok
-< w0 close file:///a\tclosed
-< b0 vault file:///a\tfade ok
-< b0 vault file:///a\tdrop fault
-< end crash 0
-< life 2
-< name file:///a
-< pair 0 restored file:///a none =hello!
-< q quit\tquit
-< end script
-< copy file:///a version 1 dirty backup 1
-$ replay
-> hotexit 1
-> file file:///a
-> w0 outside file:///a 5000 =one
-> w0 open file:///a
-> w0 edit file:///a 0 0 =x
-> b0 vault file:///a
-> b0 vault file:///a
-> b0 vault file:///a
-> crash 1
-> w0 outside file:///a 9000 =longer
-> w0 save file:///a
-> s0 flush file:///a
-< hotexit trace 1
-< life 1
-< name file:///a
-< w0 outside file:///a 5000 =one\twritten
-< w0 open file:///a\topened 5000 3
-< w0 edit file:///a 0 0 =x\tedited 2
-< b0 vault file:///a\tprepare 2 ok
-< b0 vault file:///a\tbody 2 ok
-< b0 vault file:///a\topen 2 ok
-< end crash 1
-< copy file:///a version 2 dirty backup 2
-< life 2
-< name file:///a
-< pair 0 restored file:///a 5000 3 =xone
-< w0 outside file:///a 9000 =longer\twritten
-< w0 save file:///a\tstarted 1
-< s0 flush file:///a\tmodified 9000 6
-< q quit\tquit
-< end script
-< copy file:///a version 1 dirty backup 1
-< ticket 2 modified
-$ replay
-> hotexit 1
-> file file:///a
-> slot 1 =%01%FF%FF%FF%FF%FF%FF%FF%FF%00%00%00%1Dfile:///a%20{\"typeId\":\"\"}%0Ahello
-> w0 edit file:///a 0 0 =x
-> b0 vault file:///a
-< hotexit trace 1
-< life 1
-< name file:///a
-< pair 0 restored file:///a none =hello
-< w0 edit file:///a 0 0 =x\tedited 2
-< b0 vault file:///a\tspent
-< q quit\tvetoed file:///a
-< end script
-< copy file:///a version 2 dirty backup 1
-$ restore
-> hotexit 1
-> slot 0 =%01%00%00%00%00%00%00%00%01%00%00%00%1Dfile:///a%20{\"typeId\":\"\"}%0Ahello
-> slot 2 =%01%00%00%00%00%00%00%00%01%00%00%00%1Dfile:///a%20{\"typeId\":\"\"}%0Ahello
-> slot 4 =%01%00%00%00%00%00%00%00%01%00%00%00%03abc
-< pair 0 restored file:///a none =hello
-< pair 1 twin 0
-< pair 2 damaged
-$ made 1
-< made 1
-< entries 27
-< edits 3
-< backups 3
-< drops 0
-< saved 0
-< modified 0
-< idle 5
-< faults 0
-< restored 3
-< dirty 3
-$ check
-> hotexit trace 1
-> life 1
-> name file:///a
-> w0 create file:///a\tcreated 1
-> w0 edit file:///a 0 0 =hello\tedited 2
-> b0 vault file:///a\tprepare 2 ok
-> b0 vault file:///a\tbody 2 ok
-> b0 vault file:///a\topen 2 ok
-> q quit\tquit
-> end restart
-> copy file:///a version 2 dirty backup 2
-> life 2
-> name file:///a
-> pair 0 restored file:///a none =hello
-> q quit\tquit
-> end script
-> copy file:///a version 1 dirty backup 1
-< legal
-$ check
-> hotexit trace 1
-> life 1
-> name file:///a
-> w0 create file:///a\tcreated 1
-> w0 edit file:///a 0 0 =hello\tedited 3
-> b0 vault file:///a\tprepare 2 ok
-> b0 vault file:///a\tbody 2 ok
-> b0 vault file:///a\topen 2 ok
-> q quit\tquit
-> end restart
-> copy file:///a version 2 dirty backup 2
-> life 2
-> name file:///a
-> pair 0 restored file:///a none =hello
-> q quit\tquit
-> end script
-> copy file:///a version 1 dirty backup 1
-< not at 5
-$ check
-> hotexit trace 1
-> life 1
-> name file:///a
-> w0 create file:///a\tcreated 1
-> w0 edit file:///a 0 0 =hello\tedited 2
-> b0 vault file:///a\tprepare 2 ok
-> b0 vault file:///a\tbody 2 ok
-> b0 vault file:///a\topen 2 ok
-> q quit\tquit
-> end restart
-> copy file:///a version 2 dirty backup none
-> life 2
-> name file:///a
-> pair 0 restored file:///a none =hello
-> q quit\tquit
-> end script
-> copy file:///a version 1 dirty backup 1
-< not at 11
-$ end";
