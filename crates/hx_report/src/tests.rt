@@ -376,39 +376,41 @@ const EIGHT: [&[u8]; 8] = [
     b"mem:/0", b"mem:/1", b"mem:/2", b"mem:/3", b"mem:/4", b"mem:/5", b"mem:/6", b"mem:/7",
 ];
 
+// The first life of the generated script of 1: eight windows, eight turns, and what an orderly end does of the three edited files.
+const FIRST_LIFE: [Deed; 26] = [
+    (Actor::Window(0), 0, Do::Create, Outcome::Created(1)),
+    (Actor::Window(1), 1, Do::Create, Outcome::Created(1)),
+    (Actor::Window(2), 2, Do::Create, Outcome::Created(1)),
+    (Actor::Window(3), 3, Do::Create, Outcome::Created(1)),
+    (Actor::Window(4), 4, Do::Create, Outcome::Created(1)),
+    (Actor::Window(5), 5, Do::Create, Outcome::Created(1)),
+    (Actor::Window(6), 6, Do::Create, Outcome::Created(1)),
+    (Actor::Window(7), 7, Do::Create, Outcome::Created(1)),
+    (Actor::Window(5), 5, Do::Edit(0, b"1"), Outcome::Edited(2)),
+    (SAVER, 1, Do::Flush, Outcome::Idle),
+    (WRITER, 1, Do::Vault, Outcome::Idle),
+    (WRITER, 4, Do::Vault, Outcome::Idle),
+    (Actor::Window(3), 3, Do::Edit(0, b"5"), Outcome::Edited(2)),
+    (SAVER, 3, Do::Flush, Outcome::Idle),
+    (WRITER, 7, Do::Vault, Outcome::Idle),
+    (Actor::Window(1), 1, Do::Edit(0, b"8"), Outcome::Edited(2)),
+    (Actor::Closer, 1, Do::Vault, PREPARED),
+    (Actor::Closer, 1, Do::Vault, WRITTEN),
+    (Actor::Closer, 1, Do::Vault, BACKED_UP),
+    (Actor::Closer, 3, Do::Vault, PREPARED),
+    (Actor::Closer, 3, Do::Vault, WRITTEN),
+    (Actor::Closer, 3, Do::Vault, BACKED_UP),
+    (Actor::Closer, 5, Do::Vault, PREPARED),
+    (Actor::Closer, 5, Do::Vault, WRITTEN),
+    (Actor::Closer, 5, Do::Vault, BACKED_UP),
+    (Actor::Closer, 0, Do::Quit, Outcome::Quit),
+];
+
 #[test]
 fn the_summary_of_a_made_script(rt: HostRuntime) -> Result<(), Fail> {
     let alloc = rt.alloc();
-    let deeds = [
-        (Actor::Window(0), 0, Do::Create, Outcome::Created(1)),
-        (Actor::Window(1), 1, Do::Create, Outcome::Created(1)),
-        (Actor::Window(2), 2, Do::Create, Outcome::Created(1)),
-        (Actor::Window(3), 3, Do::Create, Outcome::Created(1)),
-        (Actor::Window(4), 4, Do::Create, Outcome::Created(1)),
-        (Actor::Window(5), 5, Do::Create, Outcome::Created(1)),
-        (Actor::Window(6), 6, Do::Create, Outcome::Created(1)),
-        (Actor::Window(7), 7, Do::Create, Outcome::Created(1)),
-        (Actor::Window(5), 5, Do::Edit(0, b"1"), Outcome::Edited(2)),
-        (SAVER, 1, Do::Flush, Outcome::Idle),
-        (WRITER, 1, Do::Vault, Outcome::Idle),
-        (WRITER, 4, Do::Vault, Outcome::Idle),
-        (Actor::Window(3), 3, Do::Edit(0, b"5"), Outcome::Edited(2)),
-        (SAVER, 3, Do::Flush, Outcome::Idle),
-        (WRITER, 7, Do::Vault, Outcome::Idle),
-        (Actor::Window(1), 1, Do::Edit(0, b"8"), Outcome::Edited(2)),
-        (Actor::Closer, 1, Do::Vault, PREPARED),
-        (Actor::Closer, 1, Do::Vault, WRITTEN),
-        (Actor::Closer, 1, Do::Vault, BACKED_UP),
-        (Actor::Closer, 3, Do::Vault, PREPARED),
-        (Actor::Closer, 3, Do::Vault, WRITTEN),
-        (Actor::Closer, 3, Do::Vault, BACKED_UP),
-        (Actor::Closer, 5, Do::Vault, PREPARED),
-        (Actor::Closer, 5, Do::Vault, WRITTEN),
-        (Actor::Closer, 5, Do::Vault, BACKED_UP),
-        (Actor::Closer, 0, Do::Quit, Outcome::Quit),
-    ];
     let quit = [(Actor::Closer, 0, Do::Quit, Outcome::Quit)];
-    let first = life(alloc, &EIGHT, Vec::new(alloc), &deeds, Ended::Restart)?;
+    let first = life(alloc, &EIGHT, Vec::new(alloc), &FIRST_LIFE, Ended::Restart)?;
     let found = vec![in alloc;
         hello(alloc, b"mem:/1")?,
         hello(alloc, b"mem:/3")?,

@@ -47,39 +47,56 @@ fn the_first_lines_of_scripts(rt: HostRuntime) {
     }
 }
 
+const BAD_STEPS: &str = "Form: w8 open a
+Form: b4 vault a
+Form: s0 vault a
+Form: b0 flush a
+Form: v0 open a
+Form: w0  open a
+Form: w0 open a\x20
+Form: w0 save a over force
+Form: q quit now
+Form: crash
+Number: slot 128 =
+Number: slot 01 x
+Escape: slot 1 x
+Number: crash 18446744073709551616
+Number: w0 edit a 00 0 =
+Escape: w0 edit a 0 0 =%G1
+Resource: w0 edit b x 0 y
+Number: w0 edit a x 0 y";
+
+const BAD_STEPS_OF_RESTORE: &str = "Form: w0 open
+Place: w0 open b";
+
+const BAD_STEPS_OF_RUN: &str = "Place: b0 vault a
+Place: v0 revert a
+Place: crash x
+Escape: w0 outside a 1 a";
+
+// Each line of the table, as the third of a script, is refused for the reason before it.
+fn refuses_steps(rt: &impl Abort, alloc: Global, form: Form, table: &str) -> Result<(), Fail> {
+    for row in table.split('\n') {
+        let (why, line) = row.split_once(": ").ok_or("no reason")?;
+        let script = format!(in alloc; "hotexit 1\nfile a\n{line}\n")?;
+        let answer = read_script(alloc, script.as_bytes(), form)
+            .err()
+            .ok_or(line)?;
+        let wanted = format!(in alloc; "line 3 is bad: {why}")?;
+        assert_eq!(rt; format!(in alloc; "{answer}")?, wanted, "{line}");
+    }
+    Ok(())
+}
+
 #[test]
 fn each_reason_at_a_line(rt: HostRuntime) -> Result<(), Fail> {
-    for (form, line, why) in [
-        (Form::Replay, b"w8 open a".as_slice(), Why::Form),
-        (Form::Replay, b"b4 vault a", Why::Form),
-        (Form::Replay, b"s0 vault a", Why::Form),
-        (Form::Replay, b"b0 flush a", Why::Form),
-        (Form::Replay, b"v0 open a", Why::Form),
-        (Form::Replay, b"w0  open a", Why::Form),
-        (Form::Replay, b"w0 open a ", Why::Form),
-        (Form::Replay, b"w0 save a over force", Why::Form),
-        (Form::Replay, b"q quit now", Why::Form),
-        (Form::Replay, b"crash", Why::Form),
-        (Form::Restore, b"w0 open", Why::Form),
-        (Form::Restore, b"w0 open b", Why::Place),
-        (Form::Run, b"b0 vault a", Why::Place),
-        (Form::Run, b"v0 revert a", Why::Place),
-        (Form::Run, b"crash x", Why::Place),
-        (Form::Replay, b"slot 128 =", Why::Number),
-        (Form::Replay, b"slot 01 x", Why::Number),
-        (Form::Replay, b"slot 1 x", Why::Escape),
-        (Form::Replay, b"crash 18446744073709551616", Why::Number),
-        (Form::Replay, b"w0 edit a 00 0 =", Why::Number),
-        (Form::Replay, b"w0 edit a 0 0 =%G1", Why::Escape),
-        (Form::Replay, b"w0 edit b x 0 y", Why::Resource),
-        (Form::Replay, b"w0 edit a x 0 y", Why::Number),
-        (Form::Run, b"w0 outside a 1 a", Why::Escape),
-    ] {
-        let mut text = Vec::from_slice(rt.alloc(), b"hotexit 1\nfile a\n")?;
-        text.extend_from_slice(line)?;
-        text.push(b'\n')?;
-        refuses_script(&rt, rt.alloc(), form, &text, 3, why);
-    }
+    refuses_steps(&rt, rt.alloc(), Form::Replay, BAD_STEPS)?;
+    refuses_steps(&rt, rt.alloc(), Form::Restore, BAD_STEPS_OF_RESTORE)?;
+    refuses_steps(&rt, rt.alloc(), Form::Run, BAD_STEPS_OF_RUN)
+}
+
+#[test]
+fn scripts_that_are_too_long(rt: HostRuntime) -> Result<(), Fail> {
     let ends = repeated(rt.alloc(), b"hotexit 1\n", b"restart\n", 32)?;
     refuses_script(&rt, rt.alloc(), Form::Replay, &ends, 33, Why::TooMany);
     let lines = repeated(rt.alloc(), b"hotexit 1\n", b"q quit\n", 10_000)?;
@@ -148,144 +165,148 @@ fn the_turns_of_the_first_generated_script(rt: HostRuntime) -> Result<(), Fail> 
     Ok(())
 }
 
-#[test]
-fn each_reason_at_a_line_of_a_trace(rt: HostRuntime) -> Result<(), Fail> {
-    for (text, line, why) in [
-        (b"".as_slice(), 1, Why::Header),
-        (b"hotexit 1\n", 1, Why::Header),
-        (b"hotexit trace 1\n", 2, Why::Form),
-        (b"hotexit trace 1\nlife 1", 2, Why::NoEnd),
-        (b"hotexit trace 1\nname a\n", 2, Why::Place),
-        (b"hotexit trace 1\nlife 2\n", 2, Why::Number),
-        (b"hotexit trace 1\nlife 1\n", 3, Why::Form),
-        (b"hotexit trace 1\nlife 1\nlife 2\n", 3, Why::Place),
-        (
-            b"hotexit trace 1\nlife 1\nname a\nname a\n",
-            4,
-            Why::Declared,
-        ),
-        (b"hotexit trace 1\nlife 1\nname a\tb\n", 3, Why::Resource),
-        (
-            b"hotexit trace 1\nlife 1\nend script\nq quit\tquit\n",
-            4,
-            Why::Place,
-        ),
-        (
-            b"hotexit trace 1\nlife 1\nend script\nlife 02\n",
-            4,
-            Why::Number,
-        ),
-        (
-            b"hotexit trace 1\nlife 1\nend script\nticket 1 clean\ncopy a version 1 dirty backup none\n",
-            5,
-            Why::Place,
-        ),
-    ] {
-        refuses_trace(&rt, rt.alloc(), text, line, why);
-    }
-    for (line, why) in [
-        (b"hotexit trace 1".as_slice(), Why::Form),
-        (b"name b\tc", Why::Place),
-        (b"crash 1\tquit", Why::Form),
-        (b"file b\tquit", Why::Form),
-        (b"q quit quit", Why::Form),
-        (b"w0 edit a 0 0 =x\ty\tedited 2", Why::Form),
-        (b"w0 open a\tunguarded 2", Why::Form),
-        (b"w0 open a\topened 1", Why::Form),
-        (b"w0 open b\topened x 1", Why::Resource),
-        (b"w0 open a\topened x 1", Why::Number),
-        (b"q quit\tvetoed a\tb", Why::Resource),
-        (b"v0 open a\topened 1 1", Why::Form),
-        (b"copy a version 1 dirty backup none", Why::Place),
-        (b"copy a version 1 dirty", Why::Form),
-        (b"ticket 1 unguarded", Why::Form),
-        (b"pair 5 damaged", Why::Place),
-        (b"pair x damaged", Why::Number),
-        (b"pair 64 damaged", Why::Number),
-        (b"pair 6 twin 64", Why::Number),
-        (b"pair 6 restored a x =", Why::Form),
-        (b"pair 6 restored b none =", Why::Resource),
-        (b"pair 6 restored a 1 x =", Why::Number),
-        (b"pair 6 restored a none x", Why::Escape),
-        (b"end crash", Why::Form),
-        (b"end crash x", Why::Number),
-    ] {
-        let mut text = Vec::from_slice(
-            rt.alloc(),
-            b"hotexit trace 1\nlife 1\nname a\npair 5 twin 0\n",
-        )?;
-        text.extend_from_slice(line)?;
-        text.push(b'\n')?;
-        refuses_trace(&rt, rt.alloc(), &text, 5, why);
-    }
-    let lives = repeated(rt.alloc(), b"hotexit trace 1\n", b"life 1\nend script\n", 2)?;
-    refuses_trace(&rt, rt.alloc(), &lives, 4, Why::Number);
-    let lines = repeated(
-        rt.alloc(),
-        b"hotexit trace 1\nlife 1\n",
-        b"q quit\tquit\n",
-        199_999,
-    )?;
-    refuses_trace(&rt, rt.alloc(), &lines, 200_001, Why::TooMany);
+// The lines of a trace behind its header, with `;` for each line feed, and which of them is bad for which reason.
+const BAD_TRACES: &str = "2 Form:\x20
+2 NoEnd: life 1
+2 Place: name a;
+2 Number: life 2;
+3 Form: life 1;
+3 Place: life 1;life 2;
+4 Declared: life 1;name a;name a;
+3 Resource: life 1;name a\tb;
+4 Place: life 1;end script;q quit\tquit;
+4 Number: life 1;end script;life 02;
+5 Place: life 1;end script;ticket 1 clean;copy a version 1 dirty backup none;
+4 Number: life 1;end script;life 1;end script;";
+
+const BAD_LINES_OF_A_LIFE: &str = "Form: hotexit trace 1
+Place: name b\tc
+Form: crash 1\tquit
+Form: file b\tquit
+Form: q quit quit
+Form: w0 edit a 0 0 =x\ty\tedited 2
+Form: w0 open a\tunguarded 2
+Form: w0 open a\topened 1
+Resource: w0 open b\topened x 1
+Number: w0 open a\topened x 1
+Resource: q quit\tvetoed a\tb
+Form: v0 open a\topened 1 1
+Place: copy a version 1 dirty backup none
+Form: copy a version 1 dirty
+Form: ticket 1 unguarded
+Place: pair 5 damaged
+Number: pair x damaged
+Number: pair 64 damaged
+Number: pair 6 twin 64
+Form: pair 6 restored a x =
+Resource: pair 6 restored b none =
+Number: pair 6 restored a 1 x =
+Escape: pair 6 restored a none x
+Form: end crash
+Number: end crash x";
+
+fn refuses_lines(rt: &impl Abort, alloc: Global, text: &str, wanted: &str) -> Result<(), Fail> {
+    let answer = read_trace(alloc, text.as_bytes()).err().ok_or(wanted)?;
+    assert_eq!(rt; format!(in alloc; "{answer}")?.as_str(), wanted, "{text}");
     Ok(())
 }
 
 #[test]
-fn each_outcome_is_read(rt: HostRuntime) -> Result<(), Fail> {
-    for outcome in [
-        b"opened 1 2".as_slice(),
-        b"created 1",
-        b"edited 2",
-        b"undone 3",
-        b"redone 4",
-        b"joined",
-        b"clean",
-        b"queued",
-        b"started 5",
-        b"reverted 6 7",
-        b"closed",
-        b"written",
-        b"missing",
-        b"nopair",
-        b"alreadyopen",
-        b"notopen",
-        b"outofcontent",
-        b"toolarge",
-        b"noundo",
-        b"noredo",
-        b"saving",
-        b"fault",
-        b"idle",
-        b"spent",
-        b"prepare 1 ok",
-        b"body 2 fault",
-        b"open 3 ok",
-        b"fade ok",
-        b"drop fault",
-        b"check 1 2",
-        b"check none",
-        b"check fault",
-        b"modified 8 9",
-        b"saved 1 2 3",
-        b"saved 1 none",
-        b"write 1 fault",
-        b"quit",
-        b"vetoed a",
-    ] {
-        let mut text = Vec::from_slice(
-            rt.alloc(),
-            b"hotexit trace 1\nlife 1\nname a\nq vault a\t",
-        )?;
-        text.extend_from_slice(outcome)?;
-        text.extend_from_slice(b"\nend crash 7\n")?;
-        let trace = read_trace(rt.alloc(), &text).map_err(|_| "refused")?;
-        for told in trace.lives.as_slice() {
-            assert_eq!(rt; told.life.ended, Ended::Crash(7));
-            for entry in told.life.history.as_slice() {
-                let again = outcome_text(rt.alloc(), &told.life.names, &entry.outcome)?;
-                assert_eq!(rt; again.as_slice(), outcome);
-            }
+fn each_reason_at_a_line_of_a_trace(rt: HostRuntime) -> Result<(), Fail> {
+    let alloc = rt.alloc();
+    for row in BAD_TRACES.split('\n') {
+        let (place, lines) = row.split_once(": ").ok_or("no reason")?;
+        let (number, why) = place.split_once(' ').ok_or("no number")?;
+        let mut text = String::from_str(alloc, "hotexit trace 1")?;
+        for line in lines.trim().split(';') {
+            text.push('\n')?;
+            text.push_str(line)?;
         }
+        let wanted = format!(in alloc; "line {number} is bad: {why}")?;
+        refuses_lines(&rt, alloc, &text, &wanted)?;
+    }
+    Ok(())
+}
+
+#[test]
+fn each_reason_at_a_line_of_a_life(rt: HostRuntime) -> Result<(), Fail> {
+    let alloc = rt.alloc();
+    for row in BAD_LINES_OF_A_LIFE.split('\n') {
+        let (why, line) = row.split_once(": ").ok_or("no reason")?;
+        let front = "hotexit trace 1\nlife 1\nname a\npair 5 twin 0\n";
+        let text = format!(in alloc; "{front}{line}\n")?;
+        let wanted = format!(in alloc; "line 5 is bad: {why}")?;
+        refuses_lines(&rt, alloc, &text, &wanted)?;
+    }
+    Ok(())
+}
+
+#[test]
+fn the_first_lines_of_traces(rt: HostRuntime) -> Result<(), Fail> {
+    let alloc = rt.alloc();
+    refuses_trace(&rt, alloc, b"", 1, Why::Header);
+    refuses_trace(&rt, alloc, b"hotexit 1\n", 1, Why::Header);
+    let lines = repeated(
+        alloc,
+        b"hotexit trace 1\nlife 1\n",
+        b"q quit\tquit\n",
+        199_999,
+    )?;
+    refuses_trace(&rt, alloc, &lines, 200_001, Why::TooMany);
+    Ok(())
+}
+
+const OUTCOMES: &str = "opened 1 2
+created 1
+edited 2
+undone 3
+redone 4
+joined
+clean
+queued
+started 5
+reverted 6 7
+closed
+written
+missing
+nopair
+alreadyopen
+notopen
+outofcontent
+toolarge
+noundo
+noredo
+saving
+fault
+idle
+spent
+prepare 1 ok
+body 2 fault
+open 3 ok
+fade ok
+drop fault
+check 1 2
+check none
+check fault
+modified 8 9
+saved 1 2 3
+saved 1 none
+write 1 fault
+quit
+vetoed a";
+
+#[test]
+fn each_outcome_is_read(rt: HostRuntime) -> Result<(), Fail> {
+    let alloc = rt.alloc();
+    for outcome in OUTCOMES.split('\n') {
+        let front = "hotexit trace 1\nlife 1\nname a\nq vault a\t";
+        let text = format!(in alloc; "{front}{outcome}\nend crash 7\n")?;
+        let trace = read_trace(alloc, text.as_bytes()).map_err(|_| "refused")?;
+        let told = trace.lives.as_slice().first().ok_or("no life")?;
+        assert_eq!(rt; told.life.ended, Ended::Crash(7));
+        let entry = told.life.history.as_slice().first().ok_or("no entry")?;
+        let again = outcome_text(alloc, &told.life.names, &entry.outcome)?;
+        assert_eq!(rt; again.as_slice(), outcome.as_bytes());
     }
     Ok(())
 }
