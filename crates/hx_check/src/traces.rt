@@ -565,4 +565,45 @@ ticket 3 saved 2
 ticket 6 saved 4
 => legal
 9: w0 save file:///a\tjoined
+
+hotexit trace 1
+life 1
+name file:///a
+w0 outside file:///a 5000 =one\twritten
+w0 open file:///a\topened 5000 3
+w0 edit file:///a 3 0 =!\tedited 2
+w0 outside file:///a 9000 =two\twritten
+w0 save file:///a\tstarted 2
+s0 flush file:///a\tcheck 9000 3
+s0 flush file:///a\tsaved 2 6000 4
+q quit\tquit
+end script
+copy file:///a version 2 clean backup none
+ticket 5 saved 2
+=> legal
+9: s0 flush file:///a\tmodified 9000 3
+
+hotexit trace 1
+life 1
+name file:///a
+w0 create file:///a\tcreated 1
+w0 edit file:///a 0 0 =hello\tedited 2
+b0 vault file:///a\tprepare 2 ok
+b0 vault file:///a\tbody 2 ok
+b0 vault file:///a\topen 2 ok
+w0 edit file:///a 5 0 =!\tedited 3
+b0 vault file:///a\tprepare 3 ok
+b0 vault file:///a\tbody 3 ok
+b0 vault file:///a\topen 3 ok
+w0 close file:///a\tclosed
+b0 vault file:///a\tfade ok
+end crash 0
+life 2
+name file:///a
+pair 0 restored file:///a none =hello!
+q quit\tquit
+end script
+copy file:///a version 1 dirty backup 1
+=> legal
+14: b0 vault file:///a\tdrop ok
 ";
