@@ -1,9 +1,9 @@
 //! The end of a life: the work that is due is finished, and the question is asked whether the program may end.
 
-ghost use Rattle.std.specs.Prelude.{◌≡◌, ◌<◌, Some, length, IfOk, OnErr, OnOk};
+ghost use Rattle.std.specs.Prelude.{◌≡◌, ◌<◌, ◌≤◌, ◌+◌, ◌*◌, suc, Some, length, IfOk, OnErr, OnOk};
 ghost use Rattle.hx_closing_laws.specs.Quitting.{quit_answer};
 ghost use Rattle.hx_closing_laws.specs.Settling.{IsDone, SettlesOne};
-ghost use Rattle.hx_lives.specs.Calls.{AddsFew, AddsStages, HasGoneOn, Quits, Settles, last_outcome};
+ghost use Rattle.hx_lives.specs.Calls.{AddsFew, AddsStages, HasGoneOn, Quits, Settles, last_outcome, stages_at_most};
 ghost use Rattle.hx_lives.specs.Course.{opening};
 
 use crate::registry::Registry;
@@ -51,12 +51,14 @@ impl<D: Disk> Registry<D> {
     }
 
     /// Settles, and then asks whether the program may end, unless that was the last entry. It answers the last entry's outcome.
-    /// For want of memory the entries that were made stand.
+    /// It adds no more entries than settling
+    /// may and one. For want of memory the entries that were made stand.
     #[tactic(auto, using(hx_closing_laws::specs::Quitting::quits_as_asked, hx_closing_laws::specs::Quitting::quits_if_asked, hx_closing_laws::specs::Quitting::answers_as_asked, hx_closing_laws::specs::Quitting::answers_if_asked, hx_closing_laws::specs::Quitting::stages_stand, hx_closing_laws::specs::Settling::stays))]
     pub fn quit(&mut self) -> Result<Outcome, AllocError>
         ensures ended { OnOk result (Quits self.old.course self.new.course) }
         ensures answer { IfOk result (λ outcome. last_outcome self.new.course.entries ≡ Some outcome) }
         ensures err { OnErr result (AddsStages self.old.course self.new.course) }
+        ensures few { length self.new.course.entries ≤ suc (length self.old.course.entries + stages_at_most self.old.course.guarded * length self.old.course.names) }
         ensures runs { HasGoneOn D.time D.past D.failures self.old.disk self.new.disk }
     {
         self.settle()?;

@@ -1,7 +1,7 @@
 //! Sessions on a disk in memory, as text; the one resource is `file:///a`. A session begins with its disk: the call that fails, or the
 //! last call before all fail, both counted from the disk's first one, and what stands in slot files. Then its life is plain or
 //! guarded. A line is an event and, behind `=>`, its outcome. It ends with `file` and what is read of the user's file after it,
-//! or with lines for what another life restores after a crash with each of these picks.
+//! or with lines for what another life restores after a crash with each of these picks. A content `x*5000` is 5,000 times `x`.
 
 pub const SESSIONS: &str = "\
 life plain
@@ -262,4 +262,28 @@ vault => body 2 ok
 vault => open 2 ok
 flush => write 2 fault
 crash 2 none a
+
+life plain
+outside 500 x*5000 => written
+open => opened 500 5000
+edit 0 0 y => edited 2
+vault => prepare 2 ok
+vault => body 2 ok
+edit 0 0 z => edited 3
+vault => body 2 ok
+vault => open 2 ok
+vault => prepare 3 ok
+crash 0 500 5000 yx*5000
+crash 1 500 5000 yx*5000
+
+fail 267
+life plain
+outside 500 x*5000 => written
+open => opened 500 5000
+edit 0 0 y => edited 2
+vault => prepare 2 ok
+vault => body 2 ok
+vault => body 2 fault
+vault => idle
+crash 1
 ";

@@ -97,6 +97,16 @@ fn begun(alloc: Global, disk: MemDisk, guarded: bool) -> Result<Registry<MemDisk
     }
 }
 
+// The text, of which what stands before `*` is followed by `x` up to as many.
+fn content(alloc: Global, text: &str) -> Result<Vec<u8>, AllocError> {
+    let (front, count) = parted(text, "*");
+    let mut bytes = front.as_bytes().to_vec(alloc)?;
+    for _ in 1..number(count) {
+        bytes.push(b'x')?;
+    }
+    Ok(bytes)
+}
+
 fn edit(alloc: Global, res: ResNo, text: &str) -> Result<Command, AllocError> {
     let (off, rest) = parted(text, " ");
     let (del, text) = parted(rest, " ");
@@ -111,11 +121,10 @@ fn edit(alloc: Global, res: ResNo, text: &str) -> Result<Command, AllocError> {
 
 fn outside(alloc: Global, res: ResNo, text: &str) -> Result<Command, AllocError> {
     let (mtime, text) = parted(text, " ");
-    let text = Bytes::new(text.as_bytes().to_vec(alloc)?);
     Ok(Command::Outside {
         res,
         mtime: number(mtime),
-        text,
+        text: Bytes::new(content(alloc, text)?),
     })
 }
 
@@ -267,15 +276,21 @@ fn stat(text: &str) -> Option<Stat> {
 }
 
 // Compares what is restored with a base and a content, or with nothing.
-fn comes_back(rt: &impl Abort, restored: &Option<Backup>, wanted: &str) {
+fn comes_back(
+    rt: &impl Abort,
+    alloc: Global,
+    restored: &Option<Backup>,
+    wanted: &str,
+) -> Result<(), Fail> {
     match restored {
         None => assert!(rt; wanted.is_empty(), "nothing is not {wanted}"),
         Some(backup) => {
-            let content = wanted.rsplit(' ').next().unwrap_or("");
+            let whole = content(alloc, wanted.rsplit(' ').next().unwrap_or(""))?;
             assert_eq!(rt; backup.base, stat(wanted), "{wanted}");
-            assert_eq!(rt; backup.content.as_slice(), content.as_bytes(), "{wanted}");
+            assert!(rt; backup.content.as_slice() == whole.as_slice(), "{wanted}");
         }
     }
+    Ok(())
 }
 
 // Plays the session anew, and compares what its end leaves by this line.
@@ -287,7 +302,7 @@ fn ends(rt: &impl Abort, alloc: Global, session: &str, line: &str) -> Result<(),
     if let Some(text) = line.strip_prefix("crash ") {
         let (pick, wanted) = parted(text, " ");
         let restored = crashed(alloc, played(rt, alloc, session)?, number(pick))?;
-        comes_back(rt, &restored, wanted);
+        comes_back(rt, alloc, &restored, wanted)?;
     }
     Ok(())
 }
@@ -316,50 +331,6 @@ vault
 close
 vault
 vault";
-
-// What comes back after a crash with the picks 0 to 3, where all calls after one of these fail: nothing, one backup or the other.
-const BACK: &str = "\
-256 260 - - - -
-261 261 - hello hello -
-262 266 hello hello hello hello
-267 267 hello hello! hello! hello
-268 270 hello! hello! hello! hello!
-271 271 hello! - - hello!
-272 272 - - - -";
-
-fn comes_back_by_pick(rt: &impl Abort, alloc: Global, fuse: u64, wanted: &str) -> Result<(), Fail> {
-    let session = format!(in alloc; "fuse {fuse}\n{DISCARD}")?;
-    let mut pick = 0;
-    for content in wanted.split(' ') {
-        let restored = crashed(alloc, played(rt, alloc, &session)?, pick)?;
-        match &restored {
-            None => assert_eq!(rt; content, "-", "{fuse} {wanted}"),
-            Some(backup) => {
-                assert_eq!(rt;
-                    backup.content.as_slice(),
-                    content.as_bytes(),
-                    "{fuse} {wanted}"
-                );
-            }
-        }
-        pick = u64::saturating_add(pick, 1);
-    }
-    Ok(())
-}
-
-#[test]
-fn whatever_fails_first_a_crash_leaves_a_backup_that_may_come_back(
-    rt: HostRuntime,
-) -> Result<(), Fail> {
-    for line in BACK.split('\n') {
-        let (first, rest) = parted(line, " ");
-        let (last, wanted) = parted(rest, " ");
-        for fuse in number(first)..=number(last) {
-            comes_back_by_pick(&rt, rt.alloc(), fuse, wanted)?;
-        }
-    }
-    Ok(())
-}
 
 // A copy of a file is edited and saved.
 const SAVE: &str = "life plain
