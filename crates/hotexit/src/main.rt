@@ -7,6 +7,8 @@ mod reading;
 #[cfg(test)]
 mod sessions_of_backups;
 #[cfg(test)]
+mod sessions_of_blocks;
+#[cfg(test)]
 mod sessions_of_saves;
 mod whole;
 mod words;

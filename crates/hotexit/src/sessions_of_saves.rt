@@ -304,6 +304,32 @@ $ replay
 < copy file:///a version 4 clean backup none
 < ticket 3 saved 2
 < ticket 6 saved 4
+$ replay
+> hotexit 1
+> file file:///a
+> file file:///b
+> w0 create file:///a
+> w0 create file:///a
+> w0 save file:///b
+> w0 open file:///b
+> w0 save file:///a force
+> w0 close file:///a
+< hotexit trace 1
+< life 1
+< name file:///a
+< name file:///b
+< w0 create file:///a\tcreated 1
+< w0 create file:///a\talreadyopen
+< w0 save file:///b\tnotopen
+< w0 open file:///b\tmissing
+< w0 save file:///a force\tstarted 1
+< w0 close file:///a\tsaving
+< q flush file:///a\tcheck none
+< q flush file:///a\tsaved 1 2000 0
+< q quit\tquit
+< end script
+< copy file:///a version 1 clean backup none
+< ticket 5 saved 1
 $ made 1
 < made 1
 < entries 27
