@@ -146,7 +146,16 @@ impl Opened {
 pub struct Passes<J: Naming> {
     words: Words<J>,
     windows: u64,
-    ghost told: { windows ≡ J.windows },
+}
+
+impl<J: Naming> Model for Passes<J> {
+    ghost use Rattle.std.specs.Prelude.{◌≡◌, ℕ};
+
+    ghost Value = { ℕ };
+
+    ghost view = { λ p. p.windows };
+
+    ghost invariant = { λ p. p.windows ≡ J.windows };
 }
 
 impl<J: Naming> Passes<J> {

@@ -1,13 +1,13 @@
 //! The registry.
 
-ghost use Rattle.std.specs.Prelude.{◌≡◌, ◌≤◌, ◌<◌, length, is_some, IfOk, OnErr};
+ghost use Rattle.std.specs.Prelude.{◌≡◌, ◌≤◌, ◌<◌, true, length, is_some, IfOk, OnErr};
 ghost use Rattle.hx_core.specs.Registered.{copies_of};
 ghost use Rattle.hx_core.specs.States.{state_of};
 ghost use Rattle.hx_events.specs.Texts.{resource_of};
 ghost use Rattle.hx_events.specs.declared.event.Actor.TheVariants.{Closer};
 ghost use Rattle.hx_events.specs.declared.event.Event.TheVariants.{Act, Flush, Quit, Vault as VaultEvent};
 ghost use Rattle.hx_rules.specs.Entries.{own, past};
-ghost use Rattle.hx_rules.specs.Legal.{lowest_save_due, lowest_vault_due, restored_at, save_due, vault_due};
+ghost use Rattle.hx_rules.specs.Legal.{is_legal, lowest_save_due, lowest_vault_due, restored_at, save_due, vault_due};
 ghost use Rattle.hx_closing_laws.specs.Within.{IsWithinLimits};
 ghost use Rattle.hx_lives.specs.Calls.{AddsEntry, HasGoneOn, IsNoCrash, crash_end};
 ghost use Rattle.hx_lives.specs.Chained.{IsLived};
@@ -124,6 +124,13 @@ impl<D: Disk> Registry<D> {
     /// The history is legal, and no content of it is longer than a content may be.
     pub(crate) fn keeps_limits(&self)
         ensures { IsWithinLimits self.now.course }
+    {
+        self.parts.life.keeps_limits();
+    }
+
+    /// The history is legal. There is nothing to run.
+    pub fn legal(&self)
+        ensures { is_legal (opening self.now.course) self.now.course.entries ≡ true }
     {
         self.parts.life.keeps_limits();
     }
