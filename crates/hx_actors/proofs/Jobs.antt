@@ -15,8 +15,10 @@ use Rattle.hx_passes.specs.declared.rule.Kind.TheVariants.{Vault, Save}
 use Rattle.hx_passes.specs.declared.rule.Known.{Known}
 use Rattle.hx_passes.specs.Rules.{Each, total, one_if}
 use Rattle.hx_passes.specs.Closing.{IsClosed}
+use Rattle.hx_passes.specs.Views.{fresh}
 use Rattle.hx_passes.proofs.Lists.{each_append, each_left}
-use Rattle.hx_actors.specs.Work.{IsBegun, IsPartOf, is_full, fulls, lowest_due, events, Falls, MayStand, IsOver, IsSound, IsThrough, is_writer, is_saver, count_of}
+use Rattle.hx_hub.specs.Shared.{lowest_due}
+use Rattle.hx_actors.specs.Work.{IsBegun, IsPartOf, is_full, fulls, events, Falls, MayStand, IsInOrder, IsOver, IsSound, IsThrough, is_writer, is_saver, count_of}
 use Rattle.hx_actors.specs.Pieces.{IsNamed, events_in, Duty, duty, windows_from, worker_of, workers_below, all_duties, IsUnused, Lends, Job, IsReady, Ends, duty_of, IsCrew, parts_of, all_ended, Each2}
 use Rattle.hx_actors.proofs.Lists.{eq_of, eq_true, eq_false}
 use Rattle.hx_actors.proofs.Work.{is_part, is_work}
@@ -230,26 +232,30 @@ pub parts_of_passes : (qs : List Job) → total (λ p. p.parts) (map (λ q. q.pa
 parts_of_passes [] = refl
 parts_of_passes (q ∷ qs) = let rest = parts_of_passes qs in omega (arith, rest)
 
+pub unused_in_order : (p : Known) → IsUnused p → IsInOrder p
+unused_in_order p u = record {
+  falls = subst (Falls (suc (length p.seen))) (sym u.calls) tt;
+  stand = subst (Each MayStand) (sym u.calls) tt;
+}
+
 -- what holds of each pass, with its window's script among all
 sound_unused : (scripts : List (List Command)) (p : Known) → IsUnused p → IsSound scripts p
 sound_unused scripts p f = record {
-  falls = subst (λ cs. Falls (suc (length p.seen)) cs) (sym f.calls) tt;
-  stand = subst (λ cs. Each MayStand cs) (sym f.calls) tt;
+  order = unused_in_order p f;
   begun = λ k is. record { later = script_of k scripts; whole = sym (append-nil (script_of k scripts)) ∙ ap (λ cs. script_of k scripts ++ events cs) (sym f.calls) };
 }
 
 sound_by : (n : ℕ) (scripts : List (List Command)) (q r : Job) → Ends n q r → HasScript scripts (duty_of q) → IsSound scripts r.pass
 sound_by n scripts q r e has = record {
-  falls = e.sound.falls;
-  stand = e.sound.stand;
+  order = e.sound.order;
   begun = λ k is. subst (λ s. IsBegun (events_in s) (events r.pass.calls)) (has k (ap (is_window k) (sym e.actor) ∙ is)) (e.sound.begun (some_window k r.pass.actor is));
 }
 
 through_by : (n : ℕ) (scripts : List (List Command)) (q r : Job) → Ends n q r → r.ended ≡ true → HasScript scripts (duty_of q) → IsThrough n scripts r.pass
 through_by n scripts q r e ended has = record {
   made = λ k is. (e.through ended).made (some_window k r.pass.actor is) ∙ ap events_in (has k (ap (is_window k) (sym e.actor) ∙ is));
-  left = (e.through ended).left;
-  stays = (e.through ended).stays;
+  left = e.done.left;
+  stays = e.done.stays;
   over = (e.through ended).over;
 }
 
@@ -331,6 +337,9 @@ lends_next u v w a b = record { actor = b.actor ∙ a.actor; calls = b.calls ∙
 
 pub unused_lent : (v w : Known) → Lends v w → IsUnused v → IsUnused w
 unused_lent v w l f = record { calls = l.calls ∙ f.calls; notes = l.notes ∙ f.notes; leaves = l.leaves ∙ f.leaves }
+
+pub unused_fresh : (a : Actor) (seen : List Entry) (n : ℕ) (p : Known) → p ≡ fresh a seen n → IsUnused p
+unused_fresh a seen n p is = record { calls = ap (λ q. q.calls) is; notes = ap (λ q. q.notes) is; leaves = ap (λ q. q.leaves) is }
 
 pub parts_push : (qs : List Job) (q : Job) → parts_of (qs ++ q ∷ []) ≡ parts_of qs + q.pass.parts
 parts_push qs q = let split = total_append (λ (x : Job). x.pass.parts) qs (q ∷ []) in omega (arith, split)

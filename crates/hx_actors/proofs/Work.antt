@@ -21,7 +21,8 @@ use Rattle.hx_passes.specs.Closing.{Holds, Knows, IsClosed}
 use Rattle.hx_passes.specs.Newest.{entry_at, oldest}
 use Rattle.hx_passes.proofs.Lists.{each_map, prefix_length}
 use Rattle.hx_passes.proofs.Newest.{places_agree, beginnings_agree}
-use Rattle.hx_actors.specs.Work.{IsBegun, IsPartOf, is_full, lowest_due, events, Falls, MayStand, HasLeft, EndsOver, IsOver, IsSound, IsThrough, is_writer, is_saver, count_of, IsManned}
+use Rattle.hx_hub.specs.Shared.{lowest_due}
+use Rattle.hx_actors.specs.Work.{IsBegun, IsPartOf, is_full, events, Falls, MayStand, HasLeft, EndsOver, IsOver, IsSound, IsThrough, is_writer, is_saver, count_of, IsManned}
 use Rattle.hx_actors.proofs.Lists.{Any, each_both, meet, any_map, only, there, none_less, is_one, some_is, entry_inside, times_any, falls_more, falls_below, IsOf, Covers, matches, all_stand, newer, two_parts, no_window}
 
 -- the calls of the first pass of window k
@@ -143,7 +144,7 @@ module _ (o : Opening) (n : ℕ) (says : Finding → List Entry → Type 0) (due
 
   falls_in : Each (IsSound scripts) ps → (k : ℕ) → Each (λ p. is_window k p.actor ≡ true → Falls (suc (length (reverse h))) p.calls) ps
   falls_in sound k = each_map (λ p. IsSound scripts p × Knows n says ps h p) (λ p. is_window k p.actor ≡ true → Falls (suc (length (reverse h))) p.calls)
-      (λ p x is. falls_more (suc (length p.seen)) (suc (length (reverse h))) p.calls (let most = prefix_length p.seen h x.1.seen in let same = length-reverse h in omega (arith, most, same)) x.0.falls)
+      (λ p x is. falls_more (suc (length p.seen)) (suc (length (reverse h))) p.calls (let most = prefix_length p.seen h x.1.seen in let same = length-reverse h in omega (arith, most, same)) x.0.order.falls)
       ps (each_both (IsSound scripts) (Knows n says ps h) ps sound closed.knows)
 
   is_of : (k : ℕ) → Each (λ p. is_window k p.actor ≡ true → Each (IsOf k (reverse h)) p.calls) ps
@@ -166,7 +167,7 @@ module _ (o : Opening) (n : ℕ) (says : Finding → List Entry → Type 0) (due
       (λ q s w. only (λ c. may_stand false e.actor e.event e.outcome ≡ true) (may_stand false e.actor e.event e.outcome ≡ true) (λ c x. x) q.calls
       (meet MayStand (Is p e) (λ c. may_stand false e.actor e.event e.outcome ≡ true)
       (λ c st i. subst (λ (x : Entry). may_stand false x.actor x.event x.outcome ≡ true) i.1 st)
-      q.calls s.stand w.call))
+      q.calls s.order.stand w.call))
       ps sound (owner p e at) in
       only (λ q. may_stand false e.actor e.event e.outcome ≡ true) (may_stand false e.actor e.event e.outcome ≡ true) (λ q x. x) ps any
 

@@ -1,5 +1,5 @@
 -- What the pieces of work are given, and what they hand back. All of this is the project's own.
-use Rattle.std.specs.Prelude.{◌≡◌, ◌<◌, ℕ, zero, suc, All, Bool, true, false, ◌&&◌, List, [], ◌∷◌, ◌++◌, length, map, reverse, if◌then◌else◌}
+use Rattle.std.specs.Prelude.{◌≡◌, ◌<◌, ℕ, zero, suc, All, Bool, true, false, ◌&&◌, List, [], ◌∷◌, ◌++◌, map, reverse, if◌then◌else◌}
 use Rattle.hx_events.specs.Texts.{resource_of}
 use Rattle.hx_events.specs.declared.event.Actor.{Actor}
 use Rattle.hx_events.specs.declared.event.Actor.TheVariants.{Window, Writer, Saver}
@@ -13,7 +13,7 @@ use Rattle.hx_passes.specs.declared.rule.Known.{Known}
 use Rattle.hx_passes.specs.Rules.{Each, total}
 use Rattle.hx_passes.specs.Views.{fresh}
 use Rattle.hx_rules.specs.Interleavings.{is_some_window}
-use Rattle.hx_actors.specs.Work.{IsBegun, is_full, events, Falls, MayStand, HasLeft, IsOver}
+use Rattle.hx_actors.specs.Work.{IsBegun, is_full, events, HasLeft, IsInOrder, IsOver}
 
 -- each command names one of so many resources
 abbrev pub IsNamed : ℕ → List Command → Type 0
@@ -46,6 +46,12 @@ abbrev pub workers_below : Kind → ℕ → List Duty
 workers_below kind zero = []
 workers_below kind (suc n) = workers_below kind n ++ duty (worker_of kind n) [] ∷ []
 
+-- does the actor do the stages of this kind?
+abbrev pub works : Kind → Actor → Bool
+works Vault (Writer k) = true
+works Save (Saver k) = true
+works _ _ = false
+
 -- all windows, writers and savers, in the order in which they are to begin
 abbrev pub all_duties : List (List Command) → ℕ → List Duty
 all_duties scripts workers = windows_from 0 scripts ++ (workers_below Vault workers ++ workers_below Save workers)
@@ -69,18 +75,20 @@ pub record Lends (old new : Known) : Type 0 where
   pub notes : new.notes ≡ old.notes
   pub leaves : new.leaves ≡ old.leaves
 
--- What holds of a pass at any time, where a window has this script: its calls have falling places and may stand, and a
--- window's are the first of its script.
+-- What holds of a pass at any time, where a window has this script: its calls are in order, and a window's are the first of
+-- its script.
 pub record IsSoundBy (script : List Command) (p : Known) : Type 0 where
-  pub falls : Falls (suc (length p.seen)) p.calls
-  pub stand : Each MayStand p.calls
+  pub order : IsInOrder p
   pub begun : is_some_window p.actor ≡ true → IsBegun (events_in script) (events p.calls)
 
--- And once its work has ended with nothing left to do.
-pub record IsThroughBy (windows : ℕ) (script : List Command) (p : Known) : Type 0 where
-  pub made : is_some_window p.actor ≡ true → events p.calls ≡ events_in script
+-- What holds of a pass whose work has ended: a window has left, and no other has.
+pub record IsDone (p : Known) : Type 0 where
   pub left : is_some_window p.actor ≡ true → HasLeft p.leaves p.calls
   pub stays : is_some_window p.actor ≡ false → p.leaves ≡ []
+
+-- And where nothing was left to do: a window has made its script, and a worker has found nothing to do behind all windows.
+pub record IsThroughBy (windows : ℕ) (script : List Command) (p : Known) : Type 0 where
+  pub made : is_some_window p.actor ≡ true → events p.calls ≡ events_in script
   pub over : IsOver windows p.actor p.notes
 
 -- A piece of work: its pass, a window's commands, and whether it has ended with nothing left to do.
@@ -98,12 +106,13 @@ pub record IsReady (names : ℕ) (j : Job) : Type 0 where
   pub unused : IsUnused j.pass
   pub named : IsNamed names j.script
 
--- The piece of work has been done, where so many windows are to leave: what holds of its pass, and what besides where it has
--- ended with nothing left to do.
+-- The piece of work has ended, where so many windows are to leave: what holds of its pass, and what besides where nothing was
+-- left to do.
 pub record Ends (windows : ℕ) (old new : Job) : Type 0 where
   pub actor : new.pass.actor ≡ old.pass.actor
   pub parts : new.pass.parts ≡ old.pass.parts
   pub sound : IsSoundBy old.script new.pass
+  pub done : IsDone new.pass
   pub through : new.ended ≡ true → IsThroughBy windows old.script new.pass
 
 abbrev pub duty_of : Job → Duty

@@ -1,6 +1,6 @@
 -- What is known of the passes of windows, writers and savers when their work ends, and what a history is that they made.
 -- Calls and notes stand newest first, and so do events. All of this is the project's own.
-use Rattle.std.specs.Prelude.{◌≡◌, ℕ, suc, ◌<◌, ◌≤◌, Bool, true, false, List, [], ◌∷◌, ◌++◌, length, Option, slice_index_or}
+use Rattle.std.specs.Prelude.{◌≡◌, ℕ, suc, ◌<◌, ◌≤◌, Bool, true, false, List, [], ◌∷◌, ◌++◌, length, slice_index_or}
 use Rattle.hx_events.specs.declared.event.Actor.{Actor}
 use Rattle.hx_events.specs.declared.event.Actor.TheVariants.{Writer, Saver}
 use Rattle.hx_events.specs.declared.event.Command.{Command}
@@ -13,7 +13,6 @@ use Rattle.hx_passes.specs.declared.rule.Kind.TheVariants.{Vault, Save}
 use Rattle.hx_passes.specs.declared.rule.Known.{Known}
 use Rattle.hx_passes.specs.declared.rule.Note.{Note}
 use Rattle.hx_passes.specs.Rules.{Each, total, one_if}
-use Rattle.hx_rules.specs.Legal.{Opening, lowest_vault_due, lowest_save_due}
 use Rattle.hx_rules.specs.Interleavings.{is_window, is_some_window, events_of, script_of, may_stand, all_may_stand}
 
 -- these are the first events of the script
@@ -34,11 +33,6 @@ is_full (c ∷ cs) = true
 
 abbrev pub fulls : List (List Command) → ℕ
 fulls scripts = total (λ s. one_if (is_full s)) scripts
-
--- the lowest resource for which a stage of this kind is due
-abbrev pub lowest_due : Kind → Opening → List Entry → Option ℕ
-lowest_due Vault o es = lowest_vault_due o es
-lowest_due Save o es = lowest_save_due o es
 
 abbrev pub events : List Call → List Event
 events [] = []
@@ -69,10 +63,14 @@ IsOver windows (Writer k) ms = EndsOver windows Vault ms
 IsOver windows (Saver k) ms = EndsOver windows Save ms
 IsOver windows _ ms = Unit {0}
 
--- What holds of a pass at any time: its calls have falling places and may stand, and a window's are the first of its script.
-pub record IsSound (scripts : List (List Command)) (p : Known) : Type 0 where
+-- the pass's calls have falling places, in what it has seen, and may stand beside those of others
+pub record IsInOrder (p : Known) : Type 0 where
   pub falls : Falls (suc (length p.seen)) p.calls
   pub stand : Each MayStand p.calls
+
+-- What holds of a pass at any time: its calls are in order, and a window's are the first of its script.
+pub record IsSound (scripts : List (List Command)) (p : Known) : Type 0 where
+  pub order : IsInOrder p
   pub begun : (k : ℕ) → is_window k p.actor ≡ true → IsBegun (script_of k scripts) (events p.calls)
 
 -- And once its work has ended with nothing left to do: a window has made its script and has left, and no other has left; a

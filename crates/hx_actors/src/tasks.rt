@@ -1,6 +1,7 @@
 //! Who is to work, and in which order.
 
-ghost use Rattle.std.specs.Prelude.{◌≡◌, ◌≤◌, ◌+◌, ◌*◌, ◌++◌, IfOk, vec_len, map, reverse};
+ghost use Rattle.std.specs.Prelude.{◌≡◌, ◌≤◌, ◌+◌, ◌*◌, ◌++◌, IfOk, length, vec_len, map, reverse};
+ghost use Rattle.hx_actors.specs.Work.{fulls};
 ghost use Rattle.hx_actors.specs.Pieces.{all_duties, duty, worker_of, workers_below};
 
 use hx_events::{Actor, Command};
@@ -37,6 +38,20 @@ impl Task {
         let Task { actor, script } = self;
         (actor, script)
     }
+}
+
+/// How many of these windows have commands. The hub that `run_all` is given is to be told so many.
+pub fn windows_at_work(scripts: &[Vec<Command>]) -> u32
+    requires { length scripts.now ≤ 8 }
+    ensures { result ≡ fulls (map (λ s. s.items) scripts.now) }
+{
+    let mut count = 0;
+    for script in scripts {
+        if !script.is_empty() {
+            count += 1;
+        }
+    }
+    count
 }
 
 /// The windows that have commands, the writers and the savers, the last of them first. Threads are made for one half of a
