@@ -169,9 +169,7 @@ fn lived<R: Threads + Wait + Abort + Sync, G: Gate + Sync>(
 {
     let scripts = scripts(alloc, one, two)?;
     let founded = founded(alloc, windows_at_work(&scripts))?;
-    let (registry, ended) = run_over::<MemDisk, Brand, _, _>(
-        rt, alloc, founded, scripts, workers, gate,
-    );
+    let (registry, ended) = named(rt, alloc, founded, scripts, workers, gate);
     let nothing_due = registry.due_vault().is_none();
     let (_, life) = registry.finish(Ended::Cut);
     ended?;
