@@ -1,4 +1,4 @@
-use Rattle.std.proofs.Common.{◌≡◌, ◌∙◌, ap, Some}
+use Rattle.std.proofs.Common.{◌∙◌, ap}
 use Rattle.hx_lives.specs.Course.{Course, opening}
 use Rattle.hx_hub.specs.Shared.{lowest_due}
 use Rattle.hx_hub.proofs.Stages.{does_stage, due_is_known, was_below}
