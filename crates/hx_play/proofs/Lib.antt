@@ -3,3 +3,6 @@ mod LifeSteps
 mod Halts
 mod Plants
 mod Whole
+mod Commands
+mod RunSteps
+mod RunWhole

@@ -53,7 +53,7 @@ closed old new asked as_asked quits = subst (λ (c : Course). IsClosed c asked) 
 
 module _ {D : Type 0} (picked : ℕ → FileState → List ℕ) (tells : Bool) (time : D → ℕ) (past : D → Past) (failures : D → ℕ) (guarded : Bool) (declared : List (List ℕ)) (moment faults : ℕ) where
   -- what is over stays so
-  over_kept : (old new : D) (b b_faults : ℕ) (lives : List Life) → b ≤ time old → HasGoneOn time past failures old new → AreOver picked tells (past old) moment faults b b_faults lives → AreOver picked tells (past new) moment faults b b_faults lives
+  pub over_kept : (old new : D) (b b_faults : ℕ) (lives : List Life) → b ≤ time old → HasGoneOn time past failures old new → AreOver picked tells (past old) moment faults b b_faults lives → AreOver picked tells (past new) moment faults b b_faults lives
   over_kept old new b b_faults lives le runs over = record {
     lived = lives_kept picked tells (past old) (past new) moment b lives (agrees_less b (time old) (past old) (past new) le runs.kept) over.lived;
     falls = over.falls;
@@ -109,7 +109,7 @@ module _ {D : Type 0} (picked : ℕ → FileState → List ℕ) (tells : Bool) (
   }
 
   -- one life more is over
-  over_more : (course : Course) (how : Ended) (old new : List Life) (disk : D) → EndsLife picked tells time past failures course how old new disk
+  pub over_more : (course : Course) (how : Ended) (old new : List Life) (disk : D) → EndsLife picked tells time past failures course how old new disk
       → AreOver picked tells (past disk) moment faults course.moment course.faults old → AreOver picked tells (past disk) moment faults (time disk) (failures disk) new
   over_more course how old new disk ends over =
       subst (λ (ls : List Life). AreOver picked tells (past disk) moment faults (time disk) (failures disk) ls) (sym ends.added)

@@ -34,7 +34,7 @@ use Rattle.hx_play.proofs.Halts.{all_tail}
 use Rattle.hx_play.proofs.LifeSteps.{names_stay}
 
 -- the resources that these entries' events name are among the names
-abbrev AreEventsOf : List (List ℕ) → List Entry → Type 0
+abbrev pub AreEventsOf : List (List ℕ) → List Entry → Type 0
 AreEventsOf names [] = Unit {0}
 AreEventsOf names (e ∷ es) = IsEventOf names e.event × AreEventsOf names es
 
@@ -66,7 +66,7 @@ moves_known names (Crash pick ∷ before) all = tt
 moves_known names (Restart ∷ before) all = tt
 
 -- more names name as much
-event_stays : (names more : List (List ℕ)) → length names ≤ length more → (event : Event) → IsEventOf names event → IsEventOf more event
+pub event_stays : (names more : List (List ℕ)) → length names ≤ length more → (event : Event) → IsEventOf names event → IsEventOf more event
 event_stays names more le (Act command) is = omega (arith, le, is)
 event_stays names more le (Vault c) is = omega (arith, le, is)
 event_stays names more le (Flush c) is = omega (arith, le, is)
@@ -142,7 +142,7 @@ module _ (names : List (List ℕ)) (o : Opening) (as_many : length o.restored �
   idle_save over base _ row = absurd cc
 
   -- a stage of the Closer is of a resource of the life, since nothing is due for others
-  stage_known : (es : List Entry) (event : Event) (outcome : Outcome) (so_far before : List Entry) → AreEventsOf names es → is_row o es event outcome ≡ true → is_idle outcome ≡ false → is_closing_stage o event so_far before ≡ true → IsEventOf names event
+  pub stage_known : (es : List Entry) (event : Event) (outcome : Outcome) (so_far before : List Entry) → AreEventsOf names es → is_row o es event outcome ≡ true → is_idle outcome ≡ false → is_closing_stage o event so_far before ≡ true → IsEventOf names event
   stage_known es (Vault c) outcome so_far before all row works closes = ⊎_elim
       (λ within. within)
       (λ past.
@@ -174,7 +174,7 @@ module _ (names : List (List ℕ)) (o : Opening) (as_many : length o.restored �
   question_known (Flush c) is = absurd cc
   question_known (Act command) is = absurd cc
 
-  end_known : (end before : List Entry) → AreEventsOf names before → is_legal o (end ++ before) ≡ true → is_end o end before ≡ true → AreEventsOf names (end ++ before)
+  pub end_known : (end before : List Entry) → AreEventsOf names before → is_legal o (end ++ before) ≡ true → is_end o end before ≡ true → AreEventsOf names (end ++ before)
   end_known [] before all legal ends = all
   end_known (e ∷ stages) before all legal ends =
       let closing : are_closing o stages before ≡ true = and_right (is_closer e.actor && is_quit e.event && not (ends_in_quit (stages ++ before))) (are_closing o stages before) ends in
@@ -183,7 +183,7 @@ module _ (names : List (List ℕ)) (o : Opening) (as_many : length o.restored �
       (question_known e.event asks, stages_known stages before all (past_legal o e (stages ++ before) legal) closing)
 
   -- and the outcomes' resources are among the names too
-  entries_known : (es : List Entry) → AreEventsOf names es → is_legal o es ≡ true → AreEntriesOf names es
+  pub entries_known : (es : List Entry) → AreEventsOf names es → is_legal o es ≡ true → AreEntriesOf names es
   entries_known [] all legal = tt
   entries_known (e ∷ es) all legal = ((all.0, outcome_known es e.event e.outcome (row_holds o e es legal)), entries_known es all.1 (past_legal o e es legal))
 
@@ -191,12 +191,12 @@ entries_append : (names : List (List ℕ)) (xs ys : List Entry) → AreEntriesOf
 entries_append names [] ys left right = right
 entries_append names (e ∷ xs) ys left right = (left.0, entries_append names xs ys left.1 right)
 
-entries_reverse : (names : List (List ℕ)) (es : List Entry) → AreEntriesOf names es → AreEntriesOf names (reverse es)
+pub entries_reverse : (names : List (List ℕ)) (es : List Entry) → AreEntriesOf names es → AreEntriesOf names (reverse es)
 entries_reverse names [] all = tt
 entries_reverse names (e ∷ es) all = subst (AreEntriesOf names) (sym (reverse-append (e ∷ []) es)) (entries_append names (reverse es) (e ∷ []) (entries_reverse names es all.1) (all.0, tt))
 
 -- one life
-as_many : (life : Life) → length (opening (course_of life)).restored ≡ length life.names
+pub as_many : (life : Life) → length (opening (course_of life)).restored ≡ length life.names
 as_many life = length-map life.names (λ (name : List ℕ). found_backup name life.base)
 
 closed_known : (declared : List (List ℕ)) (life : Life) (asked : List Move) → length declared ≤ length life.names → AreMovesOf declared asked → is_legal (opening (course_of life)) (course_of life).entries ≡ true

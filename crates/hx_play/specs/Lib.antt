@@ -2,3 +2,4 @@ pub mod Over
 pub mod Running
 pub mod Planting
 pub mod Played
+pub mod Runs

@@ -7,12 +7,15 @@ mod lives;
 mod openings;
 mod planting;
 mod playing;
+mod runs;
 mod scripts;
 mod steps;
 #[cfg(test)]
 mod tests;
+mod windows;
 
 pub use lives::Lives;
 pub use planting::{PlantError, plant};
 pub use playing::{Halt, Played, play};
+pub use runs::run_script;
 pub use scripts::play_script;

@@ -57,7 +57,7 @@ fn plant_file<D: Disk>(disk: &mut D, slot: &Plant) -> Result<(), PlantError>
 pub fn plant<D: Disk>(disk: &mut D, slots: &[Plant]) -> Result<(), PlantError>
     ensures runs { HasGoneOn D.time D.past D.failures disk.old disk.new }
     ensures others { OnlyPlants (D.past disk.new) (reverse slots.now) (D.time disk.old) (D.time disk.new) }
-    ensures planted { IsTrue D.tells → OnOk result (HasPlanted (reverse slots.now) (D.now disk.new)) }
+    ensures planted { IsTrue D.tells → OnOk result (HasPlanted (reverse slots.now) (D.past disk.new (D.time disk.new))) }
     ensures cause { IsErrOf result PlantError.DiskFault → Rose (D.failures disk.old) (D.failures disk.new) }
     ensures no_fault { OnOk result (D.failures disk.new ≡ D.failures disk.old) }
 {

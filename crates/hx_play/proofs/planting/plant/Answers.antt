@@ -1,5 +1,6 @@
 use Rattle.std.proofs.Common.{◌≡◌, ◌∙◌, ◌+◌, ◌++◌, ℕ, List, [], ◌∷◌, take, drop, reverse, ap, sym, subst, refl}
 use Rattle.std.proofs.lemmas.List.{take_more, reverse-append, take-append-drop}
+use Rattle.hx_disk.specs.File.{FileState}
 use Rattle.hx_script.specs.declared.script.Plant.{Plant}
 use Rattle.hx_play.specs.Planting.{HasPlanted, OnlyPlants}
 use Rattle.hx_play.proofs.Halts.{taken_more}
@@ -24,8 +25,10 @@ loop-slot-preserved g c =
     record {
       runs = gone_on_joined g.D.Disk.time g.D.Disk.past g.D.Disk.failures c.args.disk.now c.loop-slot.disk c.plant_file.new.disk c.loop-slot.invariant.runs (gone_on_by g.D.Disk.time g.D.Disk.past g.D.Disk.now g.met.D.Disk.present g.D.Disk.failures slot.file c.loop-slot.disk c.plant_file.new.disk c.plant_file.ensures.through c.plant_file.ensures.later);
       others = subst (λ (ps : List Plant). OnlyPlants (g.D.Disk.past c.plant_file.new.disk) ps (g.D.Disk.time c.args.disk.now) (g.D.Disk.time c.plant_file.new.disk)) (sym next) (only_more g.D.Disk.time g.D.Disk.past g.D.Disk.now g.met.D.Disk.present (g.D.Disk.time c.args.disk.now) slot (reverse (take i slots)) c.loop-slot.disk c.plant_file.new.disk c.loop-slot.invariant.others c.plant_file.ensures.through);
-      planted = λ tells. subst (λ (ps : List Plant). HasPlanted ps (g.D.Disk.now c.plant_file.new.disk)) (sym next)
-          (has_more g.D.Disk.time g.D.Disk.past g.D.Disk.now g.met.D.Disk.present slot (reverse (take i slots)) c.loop-slot.disk c.plant_file.new.disk (c.loop-slot.invariant.planted tells) c.plant_file.ensures.through (c.in_ok-plant_file.ensures.planted tells));
+      planted = λ tells. subst (λ (ps : List Plant). HasPlanted ps (g.D.Disk.past c.plant_file.new.disk (g.D.Disk.time c.plant_file.new.disk))) (sym next)
+          (subst (λ (files : ℕ → FileState). HasPlanted (slot ∷ reverse (take i slots)) files) (λ i f. sym (g.met.D.Disk.present c.plant_file.new.disk f) i)
+          (has_more g.D.Disk.time g.D.Disk.past g.D.Disk.now g.met.D.Disk.present slot (reverse (take i slots)) c.loop-slot.disk c.plant_file.new.disk
+          (subst (λ (files : ℕ → FileState). HasPlanted (reverse (take i slots)) files) (λ i f. g.met.D.Disk.present c.loop-slot.disk f i) (c.loop-slot.invariant.planted tells)) c.plant_file.ensures.through (c.in_ok-plant_file.ensures.planted tells)));
       no_fault = c.in_ok-plant_file.ensures.no_fault ∙ c.loop-slot.invariant.no_fault;
     }
 

@@ -1,5 +1,4 @@
-use Rattle.std.proofs.Common.{◌≡◌, ℕ, List, All, reverse, sym, subst, inl}
-use Rattle.hx_disk.specs.File.{FileState}
+use Rattle.std.proofs.Common.{◌≡◌, List, All, reverse, sym, subst, inl}
 use Rattle.hx_script.specs.declared.script.Plant.{Plant}
 use Rattle.hx_script.specs.declared.script.Step.{Step}
 use Rattle.hx_script.specs.Scripts.{IsStepOf}
@@ -15,8 +14,7 @@ returns-in-Ok-clause-played g c =
     inl (lived_behind g.D.Disk.picked g.D.Disk.tells (g.D.Disk.past c.plant.new.disk) (g.D.Disk.past c.play.result.disk) (reverse c.args.script.slots) (g.D.Disk.time c.args.disk) (g.D.Disk.time c.plant.new.disk) (g.D.Disk.time c.play.result.disk) (g.D.Disk.failures c.args.disk) (g.D.Disk.failures c.plant.new.disk) (g.D.Disk.failures c.play.result.disk) c.play.result.lives.lives
     c.play.ensures.runs.kept c.in-Ok.ensures.no_fault
     (subst (λ (ps : List Plant). OnlyPlants (g.D.Disk.past c.plant.new.disk) (reverse ps) (g.D.Disk.time c.args.disk) (g.D.Disk.time c.plant.new.disk)) slots c.plant.ensures.others)
-    (λ tells. subst (λ (files : ℕ → FileState). HasPlanted (reverse c.args.script.slots) files) (λ i f. sym (g.met.D.Disk.present c.plant.new.disk f) i)
-    (subst (λ (ps : List Plant). HasPlanted (reverse ps) (g.D.Disk.now c.plant.new.disk)) slots (c.in-Ok.ensures.planted tells)))
+    (λ tells. subst (λ (ps : List Plant). HasPlanted (reverse ps) (g.D.Disk.past c.plant.new.disk (g.D.Disk.time c.plant.new.disk))) slots (c.in-Ok.ensures.planted tells))
     c.play.ensures.over)
 
 pub returns-in-Ok-clause-whole : goal.returns-in-Ok-clause-whole
