@@ -1,2 +1,3 @@
 mod Settings
 mod TooLong
+mod Played

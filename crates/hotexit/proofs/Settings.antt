@@ -1,12 +1,12 @@
 -- The words, setting by setting.
-use Rattle.std.specs.Prelude.{◌≡◌, ◌<◌, ◌+◌, ℕ, nat_le, Bool, ◌&&◌, cond, List, [], ◌∷◌, ◌++◌, length, drop, count_by, Option, Some, None, String, if◌then◌else◌, refl}
+use Rattle.std.specs.Prelude.{◌≡◌, ◌<◌, ◌+◌, ℕ, nat_le, Bool, true, false, ◌&&◌, cond, List, [], ◌∷◌, ◌++◌, length, drop, count_by, Option, Some, None, String, refl}
 use Rattle.std.specs.declared.alloc.Global.{Global}
 use Rattle.std.proofs.Common.{sym, ◌∙◌, ap, arith, append_assoc}
 use Rattle.std.proofs.lemmas.List.{append-nil}
 use Rattle.std.proofs.lemmas.List.Sums.{sum_by-cons}
 use Rattle.hotexit.specs.declared.words.Setting.{Setting}
 use Rattle.hotexit.specs.declared.words.Setting.TheVariants.{Fail, Fuse}
-use Rattle.hotexit.specs.Words.{are_few, command_in, fails_of, first_setting, fuse_of, is_fail, is_fuse, later_of, order_in, order_of, settings_before, texts_of}
+use Rattle.hotexit.specs.Words.{are_few, command_in, fails_of, first_setting, fuse_of, is_fail, is_fuse, later_of, order_in, order_of, run_in, run_of, settings_before, texts_of}
 
 -- where a setting stands in front, and where none does
 pub record More (words : List (String Global)) (s : Setting) : Type 0 where
@@ -39,15 +39,30 @@ all_counted p rest count all none so_far =
     let zero : count_by p (settings_before (texts_of rest)) ≡ 0 = ap (count_by p) (none_more rest none).0 in
     omega (arith, zero, so_far)
 
-pub order_is : (words rest : List (String Global)) (fails fuses : ℕ) → first_setting (texts_of rest) ≡ None
+pub few_is : (words rest : List (String Global)) (fails fuses : ℕ) → first_setting (texts_of rest) ≡ None
     → fails + count_by is_fail (settings_before (texts_of rest)) ≡ count_by is_fail (settings_before (texts_of words)) → fuses + count_by is_fuse (settings_before (texts_of rest)) ≡ count_by is_fuse (settings_before (texts_of words))
-    → command_in (texts_of rest) ≡ command_in (texts_of words) → order_in (texts_of words) ≡ (if nat_le fails 64 && nat_le fuses 1 then order_of (texts_of rest) else None)
+    → are_few (settings_before (texts_of words)) ≡ (nat_le fails 64 && nat_le fuses 1)
+few_is words rest fails fuses none fail fuse = λ i. nat_le (sym (all_counted is_fail rest fails _ none fail) i) 64 && nat_le (sym (all_counted is_fuse rest fuses _ none fuse) i) 1
+
+pub rest_is : (words rest : List (String Global)) → first_setting (texts_of rest) ≡ None → command_in (texts_of rest) ≡ command_in (texts_of words) → texts_of rest ≡ command_in (texts_of words)
+rest_is words rest none command = sym (none_more rest none).1 ∙ command
+
+-- the order of words with few settings, and of words with too many
+pub order_few : (words : List (List ℕ)) → are_few (settings_before words) ≡ true → order_in words ≡ order_of (command_in words)
 unfolding order_in
-order_is words rest fails fuses none fail fuse command =
-    let few : are_few (settings_before (texts_of words)) ≡ (nat_le fails 64 && nat_le fuses 1) =
-    λ i. nat_le (sym (all_counted is_fail rest fails _ none fail) i) 64 && nat_le (sym (all_counted is_fuse rest fuses _ none fuse) i) 1 in
-    (λ i. if few i then order_of (command_in (texts_of words)) else None)
-    ∙ ap (λ (c : List (List ℕ)). if nat_le fails 64 && nat_le fuses 1 then order_of c else None) (sym command ∙ (none_more rest none).1)
+order_few words few = rw few
+
+pub order_many : (words : List (List ℕ)) → are_few (settings_before words) ≡ false → order_in words ≡ None
+unfolding order_in
+order_many words many = rw many
+
+pub run_few : (words : List (List ℕ)) → are_few (settings_before words) ≡ true → run_in words ≡ run_of (command_in words)
+unfolding run_in
+run_few words few = rw few
+
+pub run_many : (words : List (List ℕ)) → are_few (settings_before words) ≡ false → run_in words ≡ None
+unfolding run_in
+run_many words many = rw many
 
 -- nothing before
 pub fuse_first : (x : Option ℕ) → later_of None x ≡ x
@@ -89,6 +104,14 @@ pub no_setting : (words : List (String Global)) → length words < 2 → first_s
 no_setting [] few = refl
 no_setting (a ∷ []) few = refl
 no_setting (a ∷ b ∷ words) few = absurd (omega (arith, few))
+
+-- no words of a run
+pub no_run : (words : List (String Global)) → (length words ≡ 1 → ⊥) → (length words ≡ 3 → ⊥) → run_of (texts_of words) ≡ None
+no_run [] one three = refl
+no_run (a ∷ []) one three = absurd (one refl)
+no_run (a ∷ b ∷ []) one three = refl
+no_run (a ∷ b ∷ c ∷ []) one three = absurd (three refl)
+no_run (a ∷ b ∷ c ∷ d ∷ words) one three = refl
 
 pub no_order : (words : List (String Global)) → (length words ≡ 1 → ⊥) → (length words ≡ 2 → ⊥) → order_of (texts_of words) ≡ None
 no_order [] one two = refl

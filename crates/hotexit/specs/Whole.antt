@@ -19,6 +19,8 @@ use Rattle.hx_script.specs.Scripts.{script_in}
 use Rattle.hx_script.specs.Traces.{trace_in}
 use Rattle.hx_lives.specs.Course.{Past}
 use Rattle.hx_play.specs.Played.{ArePlayed}
+use Rattle.hx_play.specs.declared.playing.Halt.{Halt}
+use Rattle.hx_play.specs.declared.playing.Halt.TheVariants.{Done as ToTheEnd, OpenFault as ToAnOpening, NoMemory as ToWantOfMemory}
 use Rattle.hotexit.specs.declared.whole.End.{End}
 use Rattle.hotexit.specs.declared.whole.End.TheVariants.{Done, Usage, BadScript, ReadFault, WriteFault, NoMemory, OpenFault}
 use Rattle.hotexit.specs.declared.words.Order.{Order}
@@ -138,6 +140,12 @@ IsOfPrint Done = Unit {0}
 IsOfPrint WriteFault = Unit {0}
 IsOfPrint NoMemory = Unit {0}
 IsOfPrint end = ⊥
+
+-- How a run ends by how far its script was played: where that was to the end, as printing ends.
+abbrev pub EndsAs : Halt → End → Type 0
+EndsAs ToTheEnd end = IsOfPrint end
+EndsAs ToAnOpening end = end ≡ OpenFault
+EndsAs ToWantOfMemory end = end ≡ NoMemory
 
 -- the ends that follow on a valid input alone
 abbrev pub IsOfInput : End → Type 0

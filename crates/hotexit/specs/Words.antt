@@ -1,5 +1,5 @@
 -- Which words are a command line, and what they ask for. They are this project's own.
-use Rattle.std.specs.Prelude.{◌≡◌, ◌≤◌, ℕ, nat_le, nat_lt, Bool, true, false, ◌&&◌, List, [], ◌∷◌, count_by, bytes_eq, codes, string_bytes, String, if◌then◌else◌, Option, Some, None, is_some}
+use Rattle.std.specs.Prelude.{◌≡◌, ◌≤◌, ℕ, nat_le, nat_lt, Bool, true, false, ◌&&◌, ◌||◌, List, [], ◌∷◌, count_by, bytes_eq, codes, string_bytes, String, if◌then◌else◌, Option, Some, None, is_some}
 use Rattle.std.specs.declared.alloc.Global.{Global}
 use Rattle.hx_base.specs.Decimals.{decimal_value}
 use Rattle.hotexit.specs.declared.words.Setting.{Setting}
@@ -93,9 +93,28 @@ abbrev pub IsOrder : Order → Type 0
 IsOrder (Play task) = IsTask task
 IsOrder order = Unit {0}
 
--- what the words ask for, if they are a command line
+-- a run has 1 to 4 writers and as many savers
+abbrev pub IsWorkers : ℕ → Type 0
+IsWorkers n = (1 ≤ n) × (n ≤ 4)
+
+-- what the words ask for, if they are a command line but a run's
 unfoldable pub order_in : List (List ℕ) → Option Order
 order_in words = if are_few (settings_before words) then order_of (command_in words) else None
+
+-- a number of workers, from 1 to 4
+abbrev pub workers_of : Option ℕ → Option ℕ
+workers_of None = None
+workers_of (Some n) = if nat_lt 0 n && nat_le n 4 then Some n else None
+
+-- `run` is with two writers and two savers, `run --workers` with as many of each as its number says; nothing follows
+abbrev pub run_of : List (List ℕ) → Option ℕ
+run_of (word ∷ []) = if bytes_eq word (codes "run") then Some 2 else None
+run_of (word ∷ flag ∷ number ∷ []) = if bytes_eq word (codes "run") && bytes_eq flag (codes "--workers") then workers_of (decimal_value number) else None
+run_of words = None
+
+-- how many workers of each kind the words ask a run for, if they are a run's command line
+unfoldable pub run_in : List (List ℕ) → Option ℕ
+run_in words = if are_few (settings_before words) then run_of (command_in words) else None
 
 -- the numbers of the calls that fail, in their order
 abbrev pub fails_of : List Setting → List ℕ
@@ -116,7 +135,7 @@ fuse_of (Fuse n ∷ settings) = later_of (Some n) (fuse_of settings)
 
 -- The settings that count: none where the words are no command line.
 abbrev pub settings_in : List (List ℕ) → List Setting
-settings_in words = if is_some (order_in words) then settings_before words else []
+settings_in words = if is_some (order_in words) || is_some (run_in words) then settings_before words else []
 
 -- the disk that the words name
 abbrev pub IsChosen : List (List ℕ) → DiskChoice → Type 0

@@ -1,9 +1,11 @@
-//! `hotexit`: plays a script of editing on a disk, with crashes and restarts, and prints what came of it.
+//! `hotexit`: plays a script of editing on a disk, with crashes and restarts, or runs its windows at once, and prints what came
+//! of it.
 #![tactic(auto)]
 
 mod ends;
 mod printing;
 mod reading;
+mod runs;
 #[cfg(test)]
 mod sessions_of_backups;
 #[cfg(test)]
@@ -14,13 +16,17 @@ mod whole;
 mod words;
 
 use crate::ends::{name_of, status};
+use crate::runs::top_run;
 use crate::whole::{End, Finished, top};
-use crate::words::{DiskChoice, disk_words};
-use hx_io::{StdSink, StdSource};
+use crate::words::{DiskChoice, disk_words, is_run};
+use hx_actors::OpenGate;
+use hx_io::{Sink, Source, StdSink, StdSource};
 use hx_memdisk::MemDisk;
 use std::alloc::{AllocError, Global};
 use std::io::ErrorKind;
 use std::process::ExitCode;
+use std::sync::Wait;
+use std::thread::Threads;
 use std::{env, io};
 
 const USAGE: &str =
@@ -28,27 +34,37 @@ const USAGE: &str =
 
 fn main(rt: HostRuntime) -> ExitCode {
     let alloc = rt.alloc();
+    let mut source = StdSource::new(rt.stdin());
+    let mut sink = StdSink::new(rt.stdout());
     let end = match words_of(&rt) {
-        Ok(words) => run(&rt, alloc, &words),
+        Ok(words) => run(&rt, alloc, &words, &mut source, &mut sink),
         Err(end) => end,
     };
     let _ = report(&rt, end);
     ExitCode::from(status(end))
 }
 
-/// The one call, on the one source and the one sink. What `top` says of texts is said of the program because nothing else in
-/// it reads standard input or writes to standard output.
-fn run(rt: &HostRuntime, alloc: Global, words: &[String]) -> End {
+/// The one call, on the one source and the one sink. What `top` and `top_run` say of texts is said of the program because
+/// nothing else in it reads standard input or writes to standard output.
+fn run<R: Threads + Wait + Sync, S: Source, K: Sink>(
+    rt: &R,
+    alloc: Global,
+    words: &[String],
+    source: &mut S,
+    sink: &mut K,
+) -> End {
     let Ok(disk) = chosen_disk(alloc, words) else {
         return End::NoMemory;
     };
-    let mut source = StdSource::new(rt.stdin());
-    let mut sink = StdSink::new(rt.stdout());
     let Finished {
         end,
         disk: _,
         lives: _,
-    } = top(alloc, words, &mut source, &mut sink, disk);
+    } = if is_run(words) {
+        top_run(rt, alloc, words, source, sink, disk, &OpenGate)
+    } else {
+        top(alloc, words, source, sink, disk)
+    };
     end
 }
 

@@ -29,7 +29,7 @@ fn refused(line: u64, why: Why) -> End
 }
 
 /// The script that the source's bytes are, or the end that comes in its place.
-fn read_as<S: Source>(alloc: Global, source: &mut S, form: Form) -> Result<Script, End>
+pub fn read_as<S: Source>(alloc: Global, source: &mut S, form: Form) -> Result<Script, End>
     ensures script { IfOk result (λ script. script_in form (added (S.given source.old) (S.given source.new)) ≡ Reads script) }
     ensures well_made { IfOk result IsWellMade }
     ensures refused { (line : ℕ) (why : Why) → result ≡ Err (End.BadScript line why) → script_in form (added (S.given source.old) (S.given source.new)) ≡ Refused line why }

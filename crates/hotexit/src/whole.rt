@@ -5,10 +5,11 @@ ghost use Rattle.hx_faults.specs.Faults.{Rose};
 ghost use Rattle.hx_io.specs.Streams.{AddsFront, Grows, added};
 ghost use Rattle.hx_lives.specs.Chained.{faults_of};
 ghost use Rattle.hx_play.specs.Played.{ArePlayed};
+ghost use Rattle.hx_report.specs.Traces.{AreWhole};
 ghost use Rattle.hx_script.specs.Scripts.{IsWellMade};
 ghost use Rattle.hx_script.specs.Traces.{trace_in};
 ghost use Rattle.hx_script.specs.declared.why.Why.{Why};
-ghost use Rattle.hotexit.specs.Whole.{FollowTo, HavePlayed, IsBeforeDisk, IsDoneOrNoMemory, IsOfCheck, IsOfInput, IsOfPlay, IsSilent, IsUntouched, judged_text, printed, reads_source, refusal, text_of};
+ghost use Rattle.hotexit.specs.Whole.{EndsAs, FollowTo, HavePlayed, IsBeforeDisk, IsDoneOrNoMemory, IsOfCheck, IsOfInput, IsOfPlay, IsSilent, IsUntouched, judged_text, printed, reads_source, refusal, text_of};
 ghost use Rattle.hotexit.specs.Words.{order_in, texts_of};
 ghost use Rattle.hotexit.specs.declared.words.Order.TheVariants.{Check, Play};
 ghost use Rattle.hotexit.specs.declared.words.Task.{Task};
@@ -57,7 +58,7 @@ pub struct Finished<D> {
 }
 
 /// An end before the first device call.
-fn stopped<D>(alloc: Global, end: End, disk: D) -> Finished<D>
+pub fn stopped<D>(alloc: Global, end: End, disk: D) -> Finished<D>
     ensures end { result.end ≡ end }
     ensures disk { result.disk ≡ disk }
     ensures lives { result.lives.items ≡ [] }
@@ -116,7 +117,30 @@ fn play<K: Sink, D: Disk>(
     ensures no_fault { result.end ≡ End.Done → K.failures sink.new ≡ K.failures sink.old }
     ensures later { K.failures sink.old ≤ K.failures sink.new }
 {
-    let Played { halt, disk, lives } = play_script(alloc, script, false, disk);
+    let played = play_script(alloc, script, false, disk);
+    print_played(alloc, task, sink, played)
+}
+
+/// Prints the lives of a script that was played to its end.
+pub fn print_played<K: Sink, D: Disk>(
+    alloc: Global,
+    task: Task,
+    sink: &mut K,
+    played: Played<D>,
+) -> Finished<D>
+    requires { played.halt ≡ Halt.Done → AreWhole (reverse played.lives.lives) }
+    ensures ends { EndsAs played.halt result.end }
+    ensures lives { reverse result.lives.items ≡ played.lives.lives }
+    ensures disk { result.disk ≡ played.disk }
+    ensures done { result.end ≡ End.Done → added (K.taken sink.old) (K.taken sink.new) ≡ text_of task result.lives.items }
+    ensures front { result.end ≡ End.WriteFault → AddsFront (text_of task result.lives.items) (K.taken sink.old) (K.taken sink.new) }
+    ensures silent { IsSilent result.end → sink.new ≡ sink.old }
+    ensures grows { Grows (K.taken sink.old) (K.taken sink.new) }
+    ensures write_fault { result.end ≡ End.WriteFault → Rose (K.failures sink.old) (K.failures sink.new) }
+    ensures no_fault { result.end ≡ End.Done → K.failures sink.new ≡ K.failures sink.old }
+    ensures later { K.failures sink.old ≤ K.failures sink.new }
+{
+    let Played { halt, disk, lives } = played;
     let lives = lives.into_vec();
     match halt {
         Halt::Done => {

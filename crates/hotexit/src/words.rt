@@ -1,8 +1,8 @@
 //! The words behind the program's name.
 
-ghost use Rattle.std.specs.Prelude.{◌≡◌, ◌≤◌, ◌&&◌, ◌++◌, nat_le, [], ◌∷◌, drop, length, None, IfOk, OnOk, IfSome};
+ghost use Rattle.std.specs.Prelude.{◌≡◌, ◌≤◌, ◌&&◌, ◌++◌, nat_le, [], ◌∷◌, drop, length, is_some, None, IfOk, OnOk, IfSome};
 ghost use Rattle.hx_base.specs.Decimals.{decimal_value};
-ghost use Rattle.hotexit.specs.Words.{IsChosen, IsOrder, fails_of, first_setting, fuse_of, is_fail, is_fuse, later_of, made_order, order_in, order_of, plain_order, setting_in, setting_of, settings_before, texts_of};
+ghost use Rattle.hotexit.specs.Words.{IsChosen, IsOrder, IsWorkers, are_few, command_in, fails_of, first_setting, fuse_of, is_fail, is_fuse, later_of, made_order, order_in, order_of, plain_order, run_in, run_of, setting_in, setting_of, settings_before, texts_of, workers_of};
 
 use hx_base::read_decimal;
 use hx_memdisk::Plan;
@@ -11,6 +11,9 @@ use std::alloc::{AllocError, Global};
 const MOST_FAILS: usize = 64;
 
 const MOST_FUSES: usize = 1;
+
+/// How many writers, and as many savers, a run has where no number is given.
+const WORKERS: u32 = 2;
 
 /// A word of the disk, with its number.
 #[derive(Clone, Copy, Debug, PartialEq, Eq)]
@@ -149,10 +152,10 @@ fn are_few(fails: usize, fuses: usize) -> bool
     fails <= MOST_FAILS && fuses <= MOST_FUSES
 }
 
-/// What the words ask for, or none exactly where they aren't a command line.
-pub fn order_in(words: &[String]) -> Option<Order>
-    ensures task { IfSome result IsOrder }
-    ensures order { result ≡ order_in (texts_of words.now) }
+/// The words behind those of the disk, or none where these are too many.
+fn command_in(words: &[String]) -> Option<&[String]>
+    ensures few { is_some result ≡ are_few (settings_before (texts_of words.now)) }
+    ensures command { IfSome result (λ command. texts_of command.now ≡ command_in (texts_of words.now)) }
 {
     let mut fails = 0;
     let mut fuses = 0;
@@ -163,10 +166,75 @@ pub fn order_in(words: &[String]) -> Option<Order>
         rest = behind_setting(rest);
     }
     if are_few(fails, fuses) {
-        order_of(rest)
+        Some(rest)
     } else {
         None
     }
+}
+
+/// What the words ask for, or none exactly where they aren't a command line of `top`.
+pub fn order_in(words: &[String]) -> Option<Order>
+    ensures task { IfSome result IsOrder }
+    ensures order { result ≡ order_in (texts_of words.now) }
+{
+    match command_in(words) {
+        Some(command) => order_of(command),
+        None => None,
+    }
+}
+
+fn workers_of(number: &[u8]) -> Option<u32>
+    ensures few { IfSome result IsWorkers }
+    ensures workers { result ≡ workers_of (decimal_value number.now) }
+{
+    let number = read_decimal(number)?;
+    if number > 0 && number <= 4 {
+        Some(number as u32)
+    } else {
+        None
+    }
+}
+
+fn run_of(command: &[String]) -> Option<u32>
+    ensures few { IfSome result IsWorkers }
+    ensures workers { result ≡ run_of (texts_of command.now) }
+{
+    match command {
+        [word] => {
+            if word.as_bytes() == b"run".as_slice() {
+                Some(WORKERS)
+            } else {
+                None
+            }
+        }
+        [word, flag, number] => {
+            if word.as_bytes() == b"run".as_slice() && flag.as_bytes() == b"--workers".as_slice() {
+                workers_of(number.as_bytes())
+            } else {
+                None
+            }
+        }
+        _ => None,
+    }
+}
+
+/// How many writers, and as many savers, the words ask a run for, or none exactly where they aren't a command line of
+/// `top_run`.
+pub fn run_in(words: &[String]) -> Option<u32>
+    ensures few { IfSome result IsWorkers }
+    ensures workers { result ≡ run_in (texts_of words.now) }
+{
+    match command_in(words) {
+        Some(command) => run_of(command),
+        None => None,
+    }
+}
+
+/// Whether `top_run` serves the words, and not `top`.
+pub fn is_run(words: &[String]) -> bool
+    ensures { result ≡ is_some (run_in (texts_of words.now)) }
+{
+    run_in(words).is_some()
 }
 
 fn add_setting(plan: &mut Plan, setting: Setting) -> Result<(), AllocError>
@@ -207,7 +275,7 @@ fn empty_plan(alloc: Global) -> Plan
 pub fn disk_words(alloc: Global, words: &[String]) -> Result<DiskChoice, AllocError>
     ensures { IfOk result (IsChosen (texts_of words.now)) }
 {
-    let plan = if order_in(words).is_some() {
+    let plan = if order_in(words).is_some() || is_run(words) {
         planned(alloc, words)?
     } else {
         empty_plan(alloc)
