@@ -99,3 +99,5 @@ fn report(rt: &impl Eprint, end: End) -> io::Result<()> {
 
 #[cfg(test)]
 mod tests;
+#[cfg(test)]
+mod tests_of_runs;

@@ -13,10 +13,10 @@ use std::test::Fail;
 
 /// What a run came to.
 #[derive(Drop)]
-struct Ran {
-    end: End,
-    output: Vec<u8>,
-    lives: usize,
+pub struct Ran {
+    pub end: End,
+    pub output: Vec<u8>,
+    pub lives: usize,
 }
 
 /// A session: the words behind `$`, the script's lines behind `>`, and behind `<` what is to be printed.
@@ -27,7 +27,7 @@ struct Session {
     output: Vec<u8>,
 }
 
-fn words_in(alloc: Global, line: &str) -> Result<Vec<String>, AllocError> {
+pub fn words_in(alloc: Global, line: &str) -> Result<Vec<String>, AllocError> {
     let mut words = Vec::new(alloc);
     for word in line.split(' ') {
         words.push(String::from_str(alloc, word)?)?;
@@ -62,7 +62,7 @@ fn run_with(
     })
 }
 
-fn run(alloc: Global, words: &str, script: &str) -> Result<Ran, AllocError> {
+pub fn run(alloc: Global, words: &str, script: &str) -> Result<Ran, AllocError> {
     let words = words_in(alloc, words)?;
     run_with(alloc, &words, script.as_bytes(), None, 100_000)
 }
@@ -84,7 +84,7 @@ fn plays_as_said(rt: &impl Abort, alloc: Global, session: &Session) -> Result<()
 }
 
 // The text up to the first of these marks, and what lies behind it.
-fn parted<'a>(text: &'a str, mark: &'static str) -> (&'a str, &'a str) {
+pub fn parted<'a>(text: &'a str, mark: &'static str) -> (&'a str, &'a str) {
     match text.split_once(mark) {
         None => (text, ""),
         Some(parts) => parts,
