@@ -26,11 +26,12 @@ pub record IsPartOf (watched : Bool) (scripts : List (List Command)) (es : List 
   pub windows : (k : ℕ) → IsBegun (script_of k scripts) (events_of k es)
   pub others : all_may_stand watched es ≡ true
 
--- how many of these scripts have commands
+-- has the script commands?
 abbrev pub is_full : List Command → Bool
 is_full [] = false
 is_full (c ∷ cs) = true
 
+-- how many of these scripts have commands
 abbrev pub fulls : List (List Command) → ℕ
 fulls scripts = total (λ s. one_if (is_full s)) scripts
 

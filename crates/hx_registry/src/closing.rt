@@ -50,9 +50,8 @@ impl<D: Disk> Registry<D> {
         }
     }
 
-    /// Settles, and then asks whether the program may end, unless that was the last entry. It answers the last entry's outcome.
-    /// It adds no more entries than settling
-    /// may and one. For want of memory the entries that were made stand.
+    /// Settles, and then asks whether the program may end, unless that was the last entry. It answers the last entry's outcome,
+    /// and adds at most one entry more than settling may. For want of memory the entries that were made stand.
     #[tactic(auto, using(hx_closing_laws::specs::Quitting::quits_as_asked, hx_closing_laws::specs::Quitting::quits_if_asked, hx_closing_laws::specs::Quitting::answers_as_asked, hx_closing_laws::specs::Quitting::answers_if_asked, hx_closing_laws::specs::Quitting::stages_stand, hx_closing_laws::specs::Settling::stays))]
     pub fn quit(&mut self) -> Result<Outcome, AllocError>
         ensures ended { OnOk result (Quits self.old.course self.new.course) }
