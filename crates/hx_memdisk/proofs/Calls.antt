@@ -1,5 +1,5 @@
 -- What each recorded call makes of its file and of all files, as the clauses of the disk say it.
-use Rattle.std.proofs.Common.{◌≡◌, ◌≢◌, ◌<◌, ◌≤◌, ℕ, ◌+◌, ◌*◌, ◌-◌, Bool, true, false, List, [], ◌∷◌, ◌++◌, length, take, get_or, set, if◌then◌else◌, Option, Some, IsSome, refl, sym, ◌∙◌, ap, subst, arith, eqb, ⊎_elim, vec_capacity}
+use Rattle.std.proofs.Common.{◌≡◌, ◌≢◌, ◌<◌, ℕ, Bool, true, false, List, [], ◌∷◌, ◌++◌, length, take, get_or, set, if◌then◌else◌, Option, Some, IsSome, refl, sym, ◌∙◌, ap, subst, arith, eqb, ⊎_elim}
 use Rattle.std.proofs.lemmas.List.{get_or-set_same, get_or-set_other, length-set}
 use Rattle.std.proofs.lemmas.Bool.Decides.{eqb_tells}
 use Rattle.hx_etag.specs.declared.stat.Stat.{Stat}
@@ -7,13 +7,11 @@ use Rattle.hx_disk.specs.Disk.{Elapses}
 use Rattle.hx_disk.specs.File.{FileState, Tried, Wrote, TriedCut, WasCut, Synced, SameContent, Crashed}
 use Rattle.hx_disk.specs.Overlay.{overlaid}
 use Rattle.hx_memdisk.specs.Event.{Event, Writes, Cuts, Syncs, SetsMtime, Crashes}
-use Rattle.hx_memdisk.specs.Kept.{IsAfter, stat_of}
-use Rattle.hx_memdisk.specs.Record.{HasRoom}
+use Rattle.hx_memdisk.specs.Kept.{IsAfter, Takes, HasLeft, stat_of}
 use Rattle.hx_memdisk.specs.Room.{FileTakes}
-use Rattle.hx_memdisk.specs.Replay.{part_of, written_stat, write_after, cut_after, sync_after, mtime_after, crash_after, pick_of, file_after}
+use Rattle.hx_memdisk.specs.Replay.{part_of, written_stat, resized, write_after, cut_after, sync_after, mtime_after, crash_after, pick_of, pick_of_bytes, file_after}
 use Rattle.hx_memdisk.specs.declared.kept.Kept.{Kept}
-use Rattle.hx_memdisk.specs.declared.record.Record.{Record}
-use Rattle.hx_memdisk.proofs.Steps.{after_write, after_cut, after_sync, after_mtime, after_crash, length_new, past_kept, now_after, own_after, synced_after, all_after}
+use Rattle.hx_memdisk.proofs.Steps.{after_write, after_cut, after_sync, after_mtime, after_crash, length_new, past_kept, now_after, own_after, all_after}
 
 -- Time goes on by the one call, and no other file changes.
 pub elapses : (calls new : List Event) (call : Event) → new ≡ calls ++ call ∷ [] → Elapses length (λ (l : List Event) (t f : ℕ). file_after (take t l) f) calls new
@@ -68,20 +66,20 @@ pub crashed : (pick : ℕ) (s new : FileState) → new ≡ crash_after pick s �
 crashed pick s new is = subst (λ (n : FileState). Crashed (pick_of pick s) n) (sym is) (record { reading = refl; rest = record { stable = refl; written = refl; least = refl; greatest = refl } })
 
 -- the files after the call
-module _ (calls new : List Event) (crashed number : ℕ) (files : List Kept) (elem kept : Kept) (within : number < length files) (known : number < 384) (value : elem ≡ get_or files number elem)
-    (before : (f : ℕ) (d : Kept) → f < 384 → IsAfter calls crashed f (get_or files f d)) where
-  was : IsAfter calls crashed number elem
-  was = subst (λ (k : Kept). IsAfter calls crashed number k) (sym value) (before number elem known)
+module _ (calls new : List Event) (number : ℕ) (files : List Kept) (elem kept : Kept) (within : number < length files) (known : number < 384) (value : elem ≡ get_or files number elem)
+    (before : (f : ℕ) (d : Kept) → f < 384 → IsAfter calls f (get_or files f d)) where
+  was : IsAfter calls number elem
+  was = subst (λ (k : Kept). IsAfter calls number k) (sym value) (before number elem known)
 
   pub each_write : (at mtime : ℕ) (bytes : List ℕ) (ok : Bool) → new ≡ calls ++ Writes number at bytes ok mtime ∷ [] → kept.bytes.items ≡ overlaid elem.bytes.items at (part_of bytes ok)
-      → stat_of kept ≡ written_stat ok (length (part_of bytes ok)) mtime (stat_of elem) (length kept.bytes.items) → kept.synced ≡ elem.synced → kept.base.items ≡ elem.base.items
-      → (f : ℕ) (d : Kept) → f < 384 → IsAfter new crashed f (get_or (set files number kept) f d)
-  each_write at mtime bytes ok more items stat synced base =
+      → stat_of kept ≡ written_stat ok (length (part_of bytes ok)) mtime (stat_of elem) (length kept.bytes.items) → kept.stable.items ≡ elem.stable.items
+      → (f : ℕ) (d : Kept) → f < 384 → IsAfter new f (get_or (set files number kept) f d)
+  each_write at mtime bytes ok more items stat stable =
       let s : FileState = file_after calls number in
       let reading : kept.bytes.items ≡ overlaid s.reading at (part_of bytes ok) = items ∙ ap (λ (l : List ℕ). overlaid l at (part_of bytes ok)) was.reading in
       let size = ap (λ (o : Option Stat). written_stat ok (length (part_of bytes ok)) mtime o (length kept.bytes.items)) was.stat ∙ ap (λ (l : List ℕ). written_stat ok (length (part_of bytes ok)) mtime s.stat (length l)) reading in
-      all_after calls new (Writes number at bytes ok mtime) more crashed number files kept refl within
-      (own_after calls new (Writes number at bytes ok mtime) more crashed number elem kept (write_after at bytes ok mtime s) was (after_write number number at mtime bytes ok s refl) reading (stat ∙ size) synced base refl) before
+      all_after calls new (Writes number at bytes ok mtime) more number files kept refl within
+      (own_after calls new (Writes number at bytes ok mtime) more number kept (write_after at bytes ok mtime s) (after_write number number at mtime bytes ok s refl) reading (stat ∙ size) (stable ∙ was.stable)) before
 
   cut_same : (len : ℕ) (ok : Bool) (mtime : ℕ) (s : FileState) → kept.bytes.items ≡ (if ok then take len s.reading else s.reading) → stat_of kept ≡ (if ok then Some (record { mtime = mtime; size = length kept.bytes.items }) else s.stat)
       → stat_of kept ≡ (cut_after len ok mtime s).stat
@@ -89,22 +87,22 @@ module _ (calls new : List Event) (crashed number : ℕ) (files : List Kept) (el
   cut_same len false mtime s items stat = stat
 
   pub each_cut : (len mtime : ℕ) (ok : Bool) → new ≡ calls ++ Cuts number len ok mtime ∷ [] → kept.bytes.items ≡ (if ok then take len elem.bytes.items else elem.bytes.items)
-      → stat_of kept ≡ (if ok then Some (record { mtime = mtime; size = length kept.bytes.items }) else stat_of elem) → kept.synced ≡ elem.synced → kept.base.items ≡ elem.base.items
-      → (f : ℕ) (d : Kept) → f < 384 → IsAfter new crashed f (get_or (set files number kept) f d)
-  each_cut len mtime ok more items stat synced base =
+      → stat_of kept ≡ (if ok then Some (record { mtime = mtime; size = length kept.bytes.items }) else stat_of elem) → kept.stable.items ≡ elem.stable.items
+      → (f : ℕ) (d : Kept) → f < 384 → IsAfter new f (get_or (set files number kept) f d)
+  each_cut len mtime ok more items stat stable =
       let s : FileState = file_after calls number in
       let reading : kept.bytes.items ≡ (if ok then take len s.reading else s.reading) = items ∙ ap (λ (l : List ℕ). if ok then take len l else l) was.reading in
       let size = cut_same len ok mtime s reading (stat ∙ ap (λ (o : Option Stat). if ok then Some (record { mtime = mtime; size = length kept.bytes.items }) else o) was.stat) in
-      all_after calls new (Cuts number len ok mtime) more crashed number files kept refl within
-      (own_after calls new (Cuts number len ok mtime) more crashed number elem kept (cut_after len ok mtime s) was (after_cut number number len mtime ok s refl) reading size synced base refl) before
+      all_after calls new (Cuts number len ok mtime) more number files kept refl within
+      (own_after calls new (Cuts number len ok mtime) more number kept (cut_after len ok mtime s) (after_cut number number len mtime ok s refl) reading size (stable ∙ was.stable)) before
 
   pub each_mtime : (mtime : ℕ) (ok : Bool) → new ≡ calls ++ SetsMtime number mtime ok ∷ [] → kept.bytes.items ≡ elem.bytes.items
-      → stat_of kept ≡ (if ok then Some (record { mtime = mtime; size = length elem.bytes.items }) else stat_of elem) → kept.synced ≡ elem.synced → kept.base.items ≡ elem.base.items
-      → (f : ℕ) (d : Kept) → f < 384 → IsAfter new crashed f (get_or (set files number kept) f d)
-  each_mtime mtime ok more items stat synced base =
+      → stat_of kept ≡ (if ok then Some (record { mtime = mtime; size = length elem.bytes.items }) else stat_of elem) → kept.stable.items ≡ elem.stable.items
+      → (f : ℕ) (d : Kept) → f < 384 → IsAfter new f (get_or (set files number kept) f d)
+  each_mtime mtime ok more items stat stable =
       let s : FileState = file_after calls number in
-      all_after calls new (SetsMtime number mtime ok) more crashed number files kept refl within
-      (own_after calls new (SetsMtime number mtime ok) more crashed number elem kept (mtime_after mtime ok s) was (after_mtime number number mtime ok s refl) (reading ok) (size ok stat) synced base (stable ok)) before
+      all_after calls new (SetsMtime number mtime ok) more number files kept refl within
+      (own_after calls new (SetsMtime number mtime ok) more number kept (mtime_after mtime ok s) (after_mtime number number mtime ok s refl) (reading ok) (size ok stat) (fixed ok)) before
     where
       reading : (b : Bool) → kept.bytes.items ≡ (mtime_after mtime b (file_after calls number)).reading
       reading true = items ∙ was.reading
@@ -114,43 +112,42 @@ module _ (calls new : List Event) (crashed number : ℕ) (files : List Kept) (el
       size true is = is ∙ ap (λ (l : List ℕ). Some (record { mtime = mtime; size = length l })) was.reading
       size false is = is ∙ was.stat
 
-      stable : (b : Bool) → (mtime_after mtime b (file_after calls number)).stable ≡ (file_after calls number).stable
-      stable true = refl
-      stable false = refl
+      fixed : (b : Bool) → kept.stable.items ≡ (mtime_after mtime b (file_after calls number)).stable
+      fixed true = stable ∙ was.stable
+      fixed false = stable ∙ was.stable
 
-  pub each_sync : (ok : Bool) (recorded : ℕ) → new ≡ calls ++ Syncs number ok ∷ [] → recorded ≡ length new → kept.bytes.items ≡ elem.bytes.items → stat_of kept ≡ stat_of elem
-      → kept.synced ≡ (if ok then recorded else elem.synced) → kept.base.items ≡ elem.base.items
-      → (f : ℕ) (d : Kept) → f < 384 → IsAfter new crashed f (get_or (set files number kept) f d)
-  each_sync true recorded more all items stat synced base =
+  pub each_sync : (ok : Bool) → new ≡ calls ++ Syncs number ok ∷ [] → kept.bytes.items ≡ elem.bytes.items → stat_of kept ≡ stat_of elem → kept.stable.items ≡ (if ok then elem.bytes.items else elem.stable.items)
+      → (f : ℕ) (d : Kept) → f < 384 → IsAfter new f (get_or (set files number kept) f d)
+  each_sync true more items stat stable =
       let s : FileState = file_after calls number in
-      all_after calls new (Syncs number true) more crashed number files kept refl within
-      (synced_after calls new (Syncs number true) more crashed number elem kept (sync_after true s) was (after_sync number number true s refl) (items ∙ was.reading) (stat ∙ was.stat) (synced ∙ all) base refl) before
-  each_sync false recorded more all items stat synced base =
+      all_after calls new (Syncs number true) more number files kept refl within
+      (own_after calls new (Syncs number true) more number kept (sync_after true s) (after_sync number number true s refl) (items ∙ was.reading) (stat ∙ was.stat) (stable ∙ was.reading)) before
+  each_sync false more items stat stable =
       let s : FileState = file_after calls number in
-      all_after calls new (Syncs number false) more crashed number files kept refl within
-      (own_after calls new (Syncs number false) more crashed number elem kept (sync_after false s) was (after_sync number number false s refl) (items ∙ was.reading) (stat ∙ was.stat) synced base refl) before
+      all_after calls new (Syncs number false) more number files kept refl within
+      (own_after calls new (Syncs number false) more number kept (sync_after false s) (after_sync number number false s refl) (items ∙ was.reading) (stat ∙ was.stat) (stable ∙ was.stable)) before
+
+-- what a crash has left of each file
+pub each_crash : (calls new : List Event) (pick : ℕ) (files left : List Kept) → new ≡ calls ++ Crashes pick ∷ [] → ((f : ℕ) (d : Kept) → f < 384 → IsAfter calls f (get_or files f d))
+    → ((f : ℕ) (d : Kept) → f < 384 → HasLeft pick (get_or files f d) (get_or left f d)) → (f : ℕ) (d : Kept) → f < 384 → IsAfter new f (get_or left f d)
+each_crash calls new pick files left more before has f d known =
+    let s : FileState = file_after calls f in
+    let old : Kept = get_or files f d in
+    let kept : Kept = get_or left f d in
+    let was : IsAfter calls f old = before f d known in
+    let made : HasLeft pick old kept = has f d known in
+    let image : kept.bytes.items ≡ pick_of pick s = made.bytes ∙ ap (λ (l : List ℕ). pick_of_bytes pick l old.stable.items) was.reading ∙ ap (λ (l : List ℕ). pick_of_bytes pick s.reading l) was.stable in
+    own_after calls new (Crashes pick) more f kept (crash_after pick s) (after_crash f pick s) image
+    (made.stat ∙ ap (λ (o : Option Stat). resized o (length kept.bytes.items)) was.stat ∙ ap (λ (l : List ℕ). resized s.stat (length l)) image)
+    (made.stable ∙ image)
 
 -- a file keeps its room
-pub takes_set : (file end number : ℕ) (files : List Kept) (elem kept : Kept) → number < length files → elem ≡ get_or files number elem → vec_capacity elem.bytes ≤ vec_capacity kept.bytes → FileTakes file end files → FileTakes file end (set files number kept)
+pub takes_set : (file end number : ℕ) (files : List Kept) (elem kept : Kept) → number < length files → elem ≡ get_or files number elem → ((e : ℕ) → Takes e elem → Takes e kept) → FileTakes file end files → FileTakes file end (set files number kept)
 takes_set file end number files elem kept within value grown takes d inside = ⊎_elim
     (λ (same : (eqb file number ≡ true) × (file ≡ number)).
     let place : get_or (set files number kept) file d ≡ kept = ap (λ n. get_or (set files number kept) n d) same.1 ∙ get_or-set_same files number kept d within in
-    let had : end ≤ vec_capacity elem.bytes = subst (λ (k : Kept). end ≤ vec_capacity k.bytes) (ap (λ n. get_or files n elem) same.1 ∙ sym value) (takes elem (omega (arith, same.1, within))) in
-    subst (λ (k : Kept). end ≤ vec_capacity k.bytes) (sym place) (omega (arith, had, grown)))
+    let had : Takes end elem = subst (Takes end) (ap (λ n. get_or files n elem) same.1 ∙ sym value) (takes elem (omega (arith, same.1, within))) in
+    subst (Takes end) (sym place) (grown end had))
     (λ (other : (eqb file number ≡ false) × (file ≢ number)).
-    subst (λ (k : Kept). end ≤ vec_capacity k.bytes) (sym (get_or-set_other files number file kept d other.1)) (takes d (omega (arith, inside, length-set {A = Kept} files number kept))))
+    subst (Takes end) (sym (get_or-set_other files number file kept d other.1)) (takes d (omega (arith, inside, length-set {A = Kept} files number kept))))
     (eqb_tells file number)
-
-product_less : (k calls end n : ℕ) → calls ≡ k + 1 → n ≤ end → k * end + n ≤ calls * end
-product_less k calls end n one most = omega (arith, ap (λ c. c * end) one)
-
--- one call less, which was handed at most so many bytes
-pub room_less : (calls end n : ℕ) (r : Record) → 0 < calls → n ≤ end → HasRoom calls (calls * end) r → HasRoom (calls - 1 + 1) ((calls - 1) * end + n) r
-room_less calls end n r some most room =
-    let less : (calls - 1) * end + n ≤ calls * end = product_less (calls - 1) calls end n (omega arith) most in
-    record { entries = omega (arith, room.entries, some); bytes = omega (arith, room.bytes, less) }
-
-pub room_less_none : (calls end : ℕ) (r : Record) → 0 < calls → HasRoom calls (calls * end) r → HasRoom (calls - 1 + 1) ((calls - 1) * end) r
-room_less_none calls end r some room =
-    let less = room_less calls end 0 r some (omega arith) room in
-    record { entries = less.entries; bytes = omega (arith, less.bytes) }

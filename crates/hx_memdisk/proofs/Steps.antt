@@ -1,12 +1,12 @@
 -- One more call in the record, and what it makes of the files.
-use Rattle.std.proofs.Common.{◌≡◌, ◌≢◌, ◌<◌, ◌≤◌, ℕ, ◌+◌, Bool, true, false, List, [], ◌∷◌, ◌++◌, length, take, get_or, set, refl, sym, ◌∙◌, ap, subst, arith, length-append, ⊎_elim, eqb}
-use Rattle.std.proofs.lemmas.List.{take-append-le, take_all, get_or-set_same, get_or-set_other}
+use Rattle.std.proofs.Common.{◌≡◌, ◌≢◌, ◌<◌, ◌≤◌, ℕ, ◌+◌, Bool, true, false, List, [], ◌∷◌, ◌++◌, length, take, get_or, set, refl, sym, ◌∙◌, ap, subst, arith, length-append, ⊎_elim, eqb, None, below_more}
+use Rattle.std.proofs.lemmas.List.{take-append-le, get_or-set_same, get_or-set_other, get_or_append_left, get_or_push}
 use Rattle.std.proofs.lemmas.Bool.{eq-eqb}
 use Rattle.std.proofs.lemmas.Bool.Decides.{nat_tests, eqb_tells}
 use Rattle.hx_disk.specs.File.{FileState}
 use Rattle.hx_memdisk.specs.Event.{Event, Writes, Cuts, Syncs, SetsMtime, Crashes}
 use Rattle.hx_memdisk.specs.Kept.{IsAfter, stat_of}
-use Rattle.hx_memdisk.specs.Replay.{after, write_after, cut_after, sync_after, mtime_after, crash_after, no_file, replayed-push, file_after}
+use Rattle.hx_memdisk.specs.Replay.{after, write_after, cut_after, sync_after, mtime_after, crash_after, no_file, replayed-nil, replayed-push, file_after}
 use Rattle.hx_memdisk.specs.declared.kept.Kept.{Kept}
 
 -- the call is on this file
@@ -66,57 +66,51 @@ module _ (calls new : List Event) (call : Event) (more : new ≡ calls ++ call �
   others_same file on f apart = now_after f ∙ after_other f file call (file_after calls f) on apart
 
   -- a file that the call isn't on
-  pub other_after : (crashed file f : ℕ) (kept : Kept) → IsOn file call → f ≢ file → IsAfter calls crashed f kept → IsAfter new crashed f kept
-  other_after crashed file f kept on apart was =
+  pub other_after : (file f : ℕ) (kept : Kept) → IsOn file call → f ≢ file → IsAfter calls f kept → IsAfter new f kept
+  other_after file f kept on apart was =
       let same : file_after new f ≡ file_after calls f = others_same file on f apart in
       record {
         reading = was.reading ∙ ap (λ (s : FileState). s.reading) (sym same);
         stat = was.stat ∙ ap (λ (s : FileState). s.stat) (sym same);
-        since = was.since;
-        within = omega (arith, was.within, length_new);
-        stable = ap (λ (s : FileState). s.reading) (past_kept kept.synced f was.within) ∙ was.stable ∙ ap (λ (s : FileState). s.stable) (sym same);
-        base = was.base ∙ ap (λ (s : FileState). s.reading) (sym (past_kept crashed f (omega (arith, was.since, was.within))));
+        stable = was.stable ∙ ap (λ (s : FileState). s.stable) (sym same);
       }
 
-  -- the file that it is on, where what is stable stays
-  pub own_after : (crashed f : ℕ) (old kept : Kept) (state : FileState) → IsAfter calls crashed f old → after f call (file_after calls f) ≡ state
-      → kept.bytes.items ≡ state.reading → stat_of kept ≡ state.stat → kept.synced ≡ old.synced → kept.base.items ≡ old.base.items → state.stable ≡ (file_after calls f).stable → IsAfter new crashed f kept
-  own_after crashed f old kept state was is reading stat synced base stable =
+  -- the file that it is on
+  pub own_after : (f : ℕ) (kept : Kept) (state : FileState) → after f call (file_after calls f) ≡ state
+      → kept.bytes.items ≡ state.reading → stat_of kept ≡ state.stat → kept.stable.items ≡ state.stable → IsAfter new f kept
+  own_after f kept state is reading stat stable =
       let now : file_after new f ≡ state = now_after f ∙ is in
       record {
         reading = reading ∙ ap (λ (s : FileState). s.reading) (sym now);
         stat = stat ∙ ap (λ (s : FileState). s.stat) (sym now);
-        since = omega (arith, synced, was.since);
-        within = omega (arith, synced, was.within, length_new);
-        stable = ap (λ n. (file_after (take n new) f).reading) synced ∙ ap (λ (s : FileState). s.reading) (past_kept old.synced f was.within) ∙ was.stable ∙ sym stable ∙ ap (λ (s : FileState). s.stable) (sym now);
-        base = base ∙ was.base ∙ ap (λ (s : FileState). s.reading) (sym (past_kept crashed f (omega (arith, was.since, was.within))));
-      }
-
-  -- the file that it is on, where all that is read has become stable
-  pub synced_after : (crashed f : ℕ) (old kept : Kept) (state : FileState) → IsAfter calls crashed f old → after f call (file_after calls f) ≡ state
-      → kept.bytes.items ≡ state.reading → stat_of kept ≡ state.stat → kept.synced ≡ length new → kept.base.items ≡ old.base.items → state.stable ≡ state.reading → IsAfter new crashed f kept
-  synced_after crashed f old kept state was is reading stat synced base stable =
-      let now : file_after new f ≡ state = now_after f ∙ is in
-      record {
-        reading = reading ∙ ap (λ (s : FileState). s.reading) (sym now);
-        stat = stat ∙ ap (λ (s : FileState). s.stat) (sym now);
-        since = omega (arith, synced, was.since, was.within, length_new);
-        within = omega (arith, synced);
-        stable = ap (λ (l : List Event). (file_after l f).reading) (take_all kept.synced new (omega (arith, synced))) ∙ ap (λ (s : FileState). s.reading) now ∙ sym stable ∙ ap (λ (s : FileState). s.stable) (sym now);
-        base = base ∙ was.base ∙ ap (λ (s : FileState). s.reading) (sym (past_kept crashed f (omega (arith, was.since, was.within))));
+        stable = stable ∙ ap (λ (s : FileState). s.stable) (sym now);
       }
 
   -- the place that was changed, and every other one
-  pub all_after : (crashed file : ℕ) (files : List Kept) (kept : Kept) → IsOn file call → file < length files → IsAfter new crashed file kept
-      → ((f : ℕ) (d : Kept) → f < 384 → IsAfter calls crashed f (get_or files f d)) → (f : ℕ) (d : Kept) → f < 384 → IsAfter new crashed f (get_or (set files file kept) f d)
-  all_after crashed file files kept on within own before f d known = ⊎_elim
+  pub all_after : (file : ℕ) (files : List Kept) (kept : Kept) → IsOn file call → file < length files → IsAfter new file kept
+      → ((f : ℕ) (d : Kept) → f < 384 → IsAfter calls f (get_or files f d)) → (f : ℕ) (d : Kept) → f < 384 → IsAfter new f (get_or (set files file kept) f d)
+  all_after file files kept on within own before f d known = ⊎_elim
       (λ (same : (eqb f file ≡ true) × (f ≡ file)).
       let place : get_or (set files file kept) f d ≡ kept = ap (λ n. get_or (set files file kept) n d) same.1 ∙ get_or-set_same files file kept d within in
-      subst (λ (k : Kept). IsAfter new crashed f k) (sym place) (subst (λ n. IsAfter new crashed n kept) (sym same.1) own))
+      subst (λ (k : Kept). IsAfter new f k) (sym place) (subst (λ n. IsAfter new n kept) (sym same.1) own))
       (λ (other : (eqb f file ≡ false) × (f ≢ file)).
-      subst (λ (k : Kept). IsAfter new crashed f k) (sym (get_or-set_other files file f kept d other.1)) (other_after crashed file f (get_or files f d) on other.1 (before f d known)))
+      subst (λ (k : Kept). IsAfter new f k) (sym (get_or-set_other files file f kept d other.1)) (other_after file f (get_or files f d) on other.1 (before f d known)))
       (eqb_tells f file)
 
--- the same record
-pub same_after : (calls new : List Event) (crashed f : ℕ) (kept : Kept) → new ≡ calls → IsAfter calls crashed f kept → IsAfter new crashed f kept
-same_after calls new crashed f kept is was = subst (λ (l : List Event). IsAfter l crashed f kept) (sym is) was
+-- a file of a new disk
+pub fresh : (f : ℕ) (k : Kept) → k.bytes.items ≡ [] → stat_of k ≡ None → k.stable.items ≡ [] → IsAfter [] f k
+fresh f k bytes absent stable =
+    let nothing : file_after [] f ≡ no_file = replayed-nil f no_file in
+    record {
+      reading = bytes ∙ ap (λ (s : FileState). s.reading) (sym nothing);
+      stat = absent ∙ ap (λ (s : FileState). s.stat) (sym nothing);
+      stable = stable ∙ ap (λ (s : FileState). s.stable) (sym nothing);
+    }
+
+-- one more file
+pub each_more : (P : ℕ → Kept → Type 0) (i : ℕ) (left new : List Kept) (kept : Kept) → length left ≡ i → new ≡ left ++ kept ∷ [] → P i kept → ((f : ℕ) (e : Kept) → f < i → P f (get_or left f e)) → (f : ℕ) (e : Kept) → f < i + 1 → P f (get_or new f e)
+each_more P i left new kept long more has before f e below =
+    subst (λ (l : List Kept). P f (get_or l f e)) (sym more)
+    (below_more (λ k. P k (get_or (left ++ kept ∷ []) k e)) i
+    (λ k lt. subst (P k) (sym (get_or_append_left left (kept ∷ []) e k (omega (arith, lt, long)))) (before k e lt))
+    (subst (P i) (sym (get_or_push left kept e i long)) has) f below)

@@ -3,8 +3,7 @@ pub mod Event
 pub mod Kept
 pub mod MemDisk
 pub mod Plan
-pub mod Record
 pub mod Replay
 pub mod Room
 pub mod Sound
-pub mod Stable
+pub mod Touched

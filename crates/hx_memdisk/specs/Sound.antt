@@ -26,7 +26,7 @@ mixed_at pick reading stable i here =
     ∙ ap (λ (x : ℕ × ℕ). mixed_byte pick stable x.0 x.1) (get_or-enumerate_from 0 reading i (0, 0) here ∙ ap (λ n. (n, get_or reading i 0)) (omega arith))
 
 -- where both have one byte, so has the mixture
-mixed_same : (pick : ℕ) (reading stable : List ℕ) (i : ℕ) → i < length reading → i < length stable → get_or reading i 0 ≡ get_or stable i 0 → get_or (mixed pick reading stable) i 0 ≡ get_or stable i 0
+pub mixed_same : (pick : ℕ) (reading stable : List ℕ) (i : ℕ) → i < length reading → i < length stable → get_or reading i 0 ≡ get_or stable i 0 → get_or (mixed pick reading stable) i 0 ≡ get_or stable i 0
 mixed_same pick reading stable i here there same =
     mixed_at pick reading stable i here
     ∙ elim ((i + pick) % 2 == 0) as (λ t. (if t then get_or reading i 0 else slice_index_or stable i 1) ≡ get_or stable i 0) [ true ↦ same | false ↦ get_or_default stable i 1 0 there ]

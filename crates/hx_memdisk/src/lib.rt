@@ -1,14 +1,14 @@
-//! A disk in memory, which keeps a record of its calls, fails as it is told to, and crashes as the model says.
+//! A disk in memory, which fails as it is told to, and crashes as the model says. Its calls are recorded where only clauses
+//! see them.
 #![tactic(auto)]
 
+mod call;
+mod carried;
 mod course;
-mod crashed;
-mod entry;
 mod files;
 mod kept;
 mod memdisk;
 mod overlay;
-mod record;
 
 pub use course::Plan;
 pub use memdisk::MemDisk;

@@ -1,44 +1,40 @@
-ghost use Rattle.std.specs.Prelude.{◌≡◌, ◌≤◌, ◌<◌, ◌+◌, ◌*◌, ℕ, Bool, true, false, length, take, slice_index_or, vec_len, vec_capacity, IfOk, OnOk};
+ghost use Rattle.std.specs.Prelude.{◌≡◌, ◌≤◌, ◌<◌, ◌+◌, ◌^◌, ℕ, true, length, take, slice_index_or, vec_len, IfOk, OnOk};
 ghost use Rattle.hx_memdisk.specs.Kept.{IsAfter};
-ghost use Rattle.hx_memdisk.specs.Record.{events_of, HasRoom, NoCrashSince};
 ghost use Rattle.hx_memdisk.specs.Replay.{file_after, no_file, pick_of};
 ghost use Rattle.hx_memdisk.specs.Room.{FileTakes};
 ghost use Rattle.hx_memdisk.specs.declared.kept.Kept.{Kept};
 
+use crate::call::{Call, Recorded};
 use crate::course::{Course, Plan};
-use crate::crashed::{all_crashed, all_stable};
-use crate::entry::Entry;
-use crate::files::{no_files, reserve_file};
+use crate::files::{crash_files, no_files, reserve_file};
 use crate::kept::Kept;
-use crate::record::Record;
 use hx_disk::{Disk, DiskFailed, FileNo};
 use hx_etag::Stat;
+use hx_ghost::GhostList;
 use std::alloc::{AllocError, Global};
 
-/// A disk in memory. It keeps a record of its calls, and each file as a read finds it.
+/// A disk in memory. It keeps each file as a read finds it, and what is stable of it.
 #[derive(Drop)]
 pub struct MemDisk {
-    alloc: Global,
-    log: Record,
     files: Vec<Kept>,
 
-    /// How many calls had been recorded at the last crash, that one too.
-    crashed: usize,
+    /// How many calls have been recorded.
+    recorded: u64,
+    log: GhostList<Recorded>,
     room_file: u32,
     room_end: u64,
     room_calls: u32,
     course: Course,
     ghost every_file: { vec_len files ≡ 384 },
-    ghost each_after: { (f : ℕ) (d : Kept) → f < 384 → IsAfter (events_of log) crashed f (slice_index_or files.items f d) },
-    ghost no_crash_since: { NoCrashSince crashed log },
-    ghost crashed_before: { crashed ≤ vec_len log.entries },
-    ghost log_room: { HasRoom room_calls (room_calls * room_end) log },
+    ghost each_after: { (f : ℕ) (d : Kept) → f < 384 → IsAfter log.items f (slice_index_or files.items f d) },
+    ghost counted: { recorded ≡ length log.items },
+    ghost countable: { recorded + room_calls < 2 ^ 64 },
     ghost file_takes: { FileTakes room_file room_end files.items },
 }
 
 impl MemDisk {
     ghost use Rattle.std.specs.Prelude.{OnErr};
-    ghost use Rattle.hx_memdisk.specs.MemDisk.{files_of, recorded, course_of, room_of};
+    ghost use Rattle.hx_memdisk.specs.MemDisk.{calls_of, files_of, recorded, course_of, room_of};
 
     /// A disk on which no file exists, all is synced and no fault has come. It has no room yet.
     pub fn new(alloc: Global, plan: Plan) -> Result<MemDisk, AllocError>
@@ -49,10 +45,9 @@ impl MemDisk {
     {
         let files = no_files(alloc)?;
         Ok(MemDisk {
-            alloc,
-            log: Record::new(alloc),
             files,
-            crashed: 0,
+            recorded: 0,
+            log: GhostList::new(),
             room_file: 0,
             room_end: 0,
             room_calls: 0,
@@ -65,20 +60,16 @@ impl MemDisk {
         })
     }
 
-    // The room for so many calls that write up to this end.
+    // The room for so many calls that write up to this end. No more calls are let in than can be counted.
     fn make_room(&mut self, number: u32, end: u64, calls: u32) -> Result<(), AllocError>
         requires known { number < 384 }
         ensures room { OnOk result (room_of self.new ≡ record { file = number; end = end; calls = calls }) }
         ensures room_err { OnErr result (room_of self.new ≡ room_of self.old) }
-        ensures events { events_of self.new.log ≡ events_of self.old.log }
+        ensures calls { calls_of self.new ≡ calls_of self.old }
         ensures course { course_of self.new ≡ course_of self.old }
     {
-        let Some(bytes) = (calls as usize).checked_mul(end as usize) else {
+        if self.recorded.checked_add(calls as u64).is_none() {
             return Err(AllocError);
-        };
-        match self.log.reserve(calls as usize, bytes) {
-            Ok(()) => {}
-            Err(error) => return Err(error),
         }
         match reserve_file(&mut self.files, number as usize, end as usize) {
             Ok(()) => {}
@@ -106,7 +97,7 @@ impl Disk for MemDisk {
     ghost use Rattle.hx_disk.specs.Disk.{Elapses, ChangesOnly, ChangesNothing, UsesCalls, IsRoomWithin};
     ghost use Rattle.hx_disk.specs.File.{Wrote, Tried, WasCut, TriedCut, Synced, SameContent, asked_stat, Crashed};
     ghost use Rattle.hx_memdisk.specs.Course.{FailsNext, StartsAnew, next_mtime, called, wrote};
-    ghost use Rattle.hx_memdisk.specs.MemDisk.{files_of, past_of, recorded, course_of, faults_of, room_of};
+    ghost use Rattle.hx_memdisk.specs.MemDisk.{calls_of, files_of, past_of, recorded, course_of, faults_of, room_of};
     ghost use Rattle.hx_memdisk.specs.Replay.{write_after, cut_after, sync_after, mtime_after, crash_after};
     ghost use Rattle.hx_memdisk.specs.Sound.{file_sound, picked_image};
 
@@ -124,9 +115,9 @@ impl Disk for MemDisk {
 
     ghost picked = { pick_of };
 
-    ghost present = { λ d f. ap (λ (l : _). file_after l f) (take_all (length (events_of d.log)) (events_of d.log) (Prim.omega arith)) };
+    ghost present = { λ d f. ap (λ (l : _). file_after l f) (take_all (length (calls_of d)) (calls_of d) (Prim.omega arith)) };
 
-    ghost sound = { λ d t f told. file_sound f (take t (events_of d.log)) };
+    ghost sound = { λ d t f told. file_sound f (take t (calls_of d)) };
 
     ghost pick_is_image = { λ pick file told sound. picked_image pick file sound };
 
@@ -208,7 +199,14 @@ impl Disk for MemDisk {
         let ok = self.course.call();
         let number = file.number();
         self.files[number as usize].write(at as usize, bytes, ok, mtime);
-        self.log.push_write(number, at, bytes, ok, mtime);
+        self.log.extend(&Call::Write {
+            file: number,
+            at,
+            bytes,
+            ok,
+            mtime,
+        });
+        self.recorded += 1;
         self.room_calls -= 1;
         if ok {
             self.course.count_write();
@@ -238,12 +236,13 @@ impl Disk for MemDisk {
         let ok = self.course.call();
         let number = file.number();
         self.files[number as usize].cut(len as usize, ok, mtime);
-        self.log.push(Entry::Cut {
+        self.log.extend(&Call::Cut {
             file: number,
             len,
             ok,
             mtime,
         });
+        self.recorded += 1;
         self.room_calls -= 1;
         if ok {
             self.course.count_write();
@@ -269,9 +268,9 @@ impl Disk for MemDisk {
     {
         let ok = self.course.call();
         let number = file.number();
-        let recorded = self.log.len() + 1;
-        self.files[number as usize].sync(ok, recorded);
-        self.log.push(Entry::Sync { file: number, ok });
+        self.files[number as usize].sync(ok);
+        self.log.extend(&Call::Sync { file: number, ok });
+        self.recorded += 1;
         self.room_calls -= 1;
         if ok { Ok(()) } else { Err(DiskFailed) }
     }
@@ -295,11 +294,12 @@ impl Disk for MemDisk {
         let ok = self.course.call();
         let number = file.number();
         self.files[number as usize].set_mtime(ok, mtime);
-        self.log.push(Entry::SetMtime {
+        self.log.extend(&Call::SetMtime {
             file: number,
             mtime,
             ok,
         });
+        self.recorded += 1;
         self.room_calls -= 1;
         if ok { Ok(()) } else { Err(DiskFailed) }
     }
@@ -318,16 +318,13 @@ impl Disk for MemDisk {
         ensures course_err { OnErr result (course_of self.new ≡ course_of self.old) }
         ensures moment { OnOk result (recorded self.new ≡ recorded self.old + 1) }
     {
-        let recorded = self.log.len() + 1;
-        let stable = all_stable(self.alloc, &self.log, &self.files, self.crashed)?;
-        let left = all_crashed(self.alloc, &self.files, &stable, pick, recorded)?;
-        match self.log.reserve(1, 0) {
-            Ok(()) => {}
-            Err(error) => return Err(error),
-        }
-        self.log.push(Entry::Crash { pick });
-        self.files = left;
-        self.crashed = recorded;
+        // It takes no memory. More crashes than can be counted never come.
+        let Some(recorded) = self.recorded.checked_add(1) else {
+            return Err(AllocError);
+        };
+        crash_files(&mut self.files, pick);
+        self.log.extend(&Call::Crash { pick });
+        self.recorded = recorded;
         self.room_end = 0;
         self.room_calls = 0;
         self.course.start_anew();
@@ -335,7 +332,7 @@ impl Disk for MemDisk {
     }
 
     fn moment(&self) -> u64 {
-        self.log.len() as u64
+        self.recorded
     }
 
     fn faults(&self) -> u64 {

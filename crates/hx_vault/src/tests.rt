@@ -65,8 +65,7 @@ struct Untold {
 }
 
 impl Disk for Untold {
-    ghost use Rattle.hx_memdisk.specs.MemDisk.{files_of, past_of, recorded, faults_of, room_of};
-    ghost use Rattle.hx_memdisk.specs.Record.{events_of};
+    ghost use Rattle.hx_memdisk.specs.MemDisk.{calls_of, files_of, past_of, recorded, faults_of, room_of};
     ghost use Rattle.hx_memdisk.specs.Replay.{file_after, pick_of};
     ghost use Rattle.hx_memdisk.specs.Sound.{file_sound, picked_image};
     ghost use Rattle.std.specs.Prelude.{false, length, take};
@@ -87,9 +86,9 @@ impl Disk for Untold {
 
     ghost picked = { pick_of };
 
-    ghost present = { λ d f. ap (λ (l : _). file_after l f) (take_all (length (events_of d.disk.log)) (events_of d.disk.log) (Prim.omega arith)) };
+    ghost present = { λ d f. ap (λ (l : _). file_after l f) (take_all (length (calls_of d.disk)) (calls_of d.disk) (Prim.omega arith)) };
 
-    ghost sound = { λ d t f told. file_sound f (take t (events_of d.disk.log)) };
+    ghost sound = { λ d t f told. file_sound f (take t (calls_of d.disk)) };
 
     ghost pick_is_image = { λ pick file told sound. picked_image pick file sound };
 

@@ -1,7 +1,7 @@
 use Rattle.std.proofs.Common.{rules, refl, ◌≡◌, [], length}
 use Rattle.hx_memdisk.specs.Kept.{IsAfter}
 use Rattle.hx_memdisk.specs.declared.kept.Kept.{Kept}
-use Rattle.hx_memdisk.proofs.Crashes.{fresh, each_more}
+use Rattle.hx_memdisk.proofs.Steps.{fresh, each_more}
 use Rattle.hx_memdisk.proofs.files.no_files.Goals as goal
 
 pub loop-preserved : goal.loop-preserved
@@ -9,5 +9,5 @@ loop-preserved c =
     let long : length c.loop.files.items ≡ c.loop.counter = search rules in
     record {
       len = search rules;
-      each = each_more (λ n (k : Kept). IsAfter [] 0 n k) _ _ _ _ long c.in_ok-push.ensures.items (fresh _ _ c.new.ensures.items refl refl c.new-in-loop.ensures.items) c.loop.invariant.each;
+      each = each_more (λ n (k : Kept). IsAfter [] n k) _ _ _ _ long c.in_ok-push.ensures.items (fresh _ _ c.new.ensures.bytes c.new.ensures.stat c.new.ensures.stable) c.loop.invariant.each;
     }

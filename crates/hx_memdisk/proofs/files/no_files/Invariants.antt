@@ -6,5 +6,5 @@ use Rattle.hx_memdisk.proofs.files.no_files.Given as goal
 abbrev pub invariant-loop : goal.invariant-loop
 invariant-loop l = record {
   len : vec_len l.files ≡ l.counter;
-  each : (f : ℕ) (d : Kept) → f < l.counter → IsAfter [] 0 f (get_or l.files.items f d);
+  each : (f : ℕ) (d : Kept) → f < l.counter → IsAfter [] f (get_or l.files.items f d);
 }

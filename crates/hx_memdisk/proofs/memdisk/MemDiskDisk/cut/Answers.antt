@@ -1,66 +1,56 @@
-use Rattle.std.proofs.Common.{rules, arith, ◌<◌, length, true, false, refl, sym, ◌∙◌, ap}
+use Rattle.std.proofs.Common.{rules, arith, ◌<◌, length, true, false, sym, ◌∙◌, ap}
 use Rattle.hx_memdisk.proofs.Steps.{length_new, past_kept, others_same}
-use Rattle.hx_memdisk.proofs.Calls.{takes_set, room_less_none, each_cut, state_cut, was_cut, tried_cut}
+use Rattle.hx_memdisk.proofs.Calls.{takes_set, each_cut, state_cut, was_cut, tried_cut}
 use Rattle.hx_memdisk.specs.MemDisk.{files_of}
 use Rattle.hx_memdisk.specs.Replay.{cut_after}
 use Rattle.hx_memdisk.proofs.memdisk.MemDiskDisk.cut.Goals as goal
 
-pub invariant_of-self-clause-each_after : goal.invariant_of-self-clause-each_after
-invariant_of-self-clause-each_after c =
+pub invariant_of-self : goal.invariant_of-self
+invariant_of-self c =
     let within : c.number-number.result < length c.args.self.now.files.items = search rules in
-    each_cut _ _ _ _ _ _ _ within c.number-number.ensures.known c.index_mut.ensures.value c.args.self.now.each_after _ _ _ c.push.ensures.events c.cut.ensures.bytes c.cut.ensures.stat c.cut.ensures.synced c.cut.ensures.base
+    record {
+      every_file = search rules;
+      each_after = each_cut _ _ _ _ _ _ within c.number-number.ensures.known c.index_mut.ensures.value c.args.self.now.each_after _ _ _ c.extend.ensures c.cut.ensures.bytes c.cut.ensures.stat c.cut.ensures.stable;
+      counted = omega (arith, c.args.self.now.counted, length_new _ _ _ c.extend.ensures);
+      countable = omega (arith, c.args.self.now.countable);
+      file_takes = takes_set _ _ _ _ _ _ within c.index_mut.ensures.value c.cut.ensures.keeps c.args.self.now.file_takes;
+    }
 
-pub invariant_of-self-clause-file_takes : goal.invariant_of-self-clause-file_takes
-invariant_of-self-clause-file_takes c =
+pub invariant_of-self-else-ok : goal.invariant_of-self-else-ok
+invariant_of-self-else-ok c =
     let within : c.number-number.result < length c.args.self.now.files.items = search rules in
-    takes_set _ _ _ _ _ _ within c.index_mut.ensures.value c.cut.ensures.capacity c.args.self.now.file_takes
-
-pub invariant_of-self-clause-log_room : goal.invariant_of-self-clause-log_room
-invariant_of-self-clause-log_room c = c.push.ensures.keeps _ _ (room_less_none _ _ _ (omega arith) c.args.self.now.log_room)
-
-pub invariant_of-self-else-ok-clause-each_after : goal.invariant_of-self-else-ok-clause-each_after
-invariant_of-self-else-ok-clause-each_after c =
-    let within : c.number-number.result < length c.args.self.now.files.items = search rules in
-    each_cut _ _ _ _ _ _ _ within c.number-number.ensures.known c.index_mut.ensures.value c.args.self.now.each_after _ _ _ c.push.ensures.events c.cut.ensures.bytes c.cut.ensures.stat c.cut.ensures.synced c.cut.ensures.base
-
-pub invariant_of-self-else-ok-clause-file_takes : goal.invariant_of-self-else-ok-clause-file_takes
-invariant_of-self-else-ok-clause-file_takes c =
-    let within : c.number-number.result < length c.args.self.now.files.items = search rules in
-    takes_set _ _ _ _ _ _ within c.index_mut.ensures.value c.cut.ensures.capacity c.args.self.now.file_takes
-
-pub invariant_of-self-else-ok-clause-log_room : goal.invariant_of-self-else-ok-clause-log_room
-invariant_of-self-else-ok-clause-log_room c = c.push.ensures.keeps _ _ (room_less_none _ _ _ (omega arith) c.args.self.now.log_room)
+    record {
+      every_file = search rules;
+      each_after = each_cut _ _ _ _ _ _ within c.number-number.ensures.known c.index_mut.ensures.value c.args.self.now.each_after _ _ _ c.extend.ensures c.cut.ensures.bytes c.cut.ensures.stat c.cut.ensures.stable;
+      counted = omega (arith, c.args.self.now.counted, length_new _ _ _ c.extend.ensures);
+      countable = omega (arith, c.args.self.now.countable);
+      file_takes = takes_set _ _ _ _ _ _ within c.index_mut.ensures.value c.cut.ensures.keeps c.args.self.now.file_takes;
+    }
 
 pub returns-then-ok-clause-file : goal.returns-then-ok-clause-file
-returns-then-ok-clause-file c = state_cut _ _ _ _ _ _ _ c.number-number.ensures.value c.push.ensures.events ∙ ap (λ b. cut_after c.args.len b c.next_mtime-mtime.result (files_of c.args.self.now c.args.file)) c.if-ok.true ∙ ap (λ m. cut_after c.args.len true m (files_of c.args.self.now c.args.file)) c.next_mtime-mtime.ensures
+returns-then-ok-clause-file c = state_cut _ _ _ _ _ _ _ c.number-number.ensures.value c.extend.ensures ∙ ap (λ b. cut_after c.args.len b c.next_mtime-mtime.result (files_of c.args.self.now c.args.file)) c.if-ok.true ∙ ap (λ m. cut_after c.args.len true m (files_of c.args.self.now c.args.file)) c.next_mtime-mtime.ensures
 
 pub returns-then-ok-clause-only : goal.returns-then-ok-clause-only
 returns-then-ok-clause-only c =
-    let more = c.push.ensures.events in
+    let more = c.extend.ensures in
     record {
       time = record { later = omega (arith, length_new _ _ _ more); by_one = omega (arith, length_new _ _ _ more); kept = past_kept _ _ _ more };
       others = others_same _ _ _ more c.args.file (sym c.number-number.ensures.value);
     }
 
 pub returns-else-ok-clause-file : goal.returns-else-ok-clause-file
-returns-else-ok-clause-file c = state_cut _ _ _ _ _ _ _ c.number-number.ensures.value c.push.ensures.events ∙ ap (λ b. cut_after c.args.len b c.next_mtime-mtime.result (files_of c.args.self.now c.args.file)) c.if-ok.false ∙ ap (λ m. cut_after c.args.len false m (files_of c.args.self.now c.args.file)) c.next_mtime-mtime.ensures
+returns-else-ok-clause-file c = state_cut _ _ _ _ _ _ _ c.number-number.ensures.value c.extend.ensures ∙ ap (λ b. cut_after c.args.len b c.next_mtime-mtime.result (files_of c.args.self.now c.args.file)) c.if-ok.false ∙ ap (λ m. cut_after c.args.len false m (files_of c.args.self.now c.args.file)) c.next_mtime-mtime.ensures
 
 pub returns-else-ok-clause-only : goal.returns-else-ok-clause-only
 returns-else-ok-clause-only c =
-    let more = c.push.ensures.events in
+    let more = c.extend.ensures in
     record {
       time = record { later = omega (arith, length_new _ _ _ more); by_one = omega (arith, length_new _ _ _ more); kept = past_kept _ _ _ more };
       others = others_same _ _ _ more c.args.file (sym c.number-number.ensures.value);
     }
 
 pub returns-then-ok-clause-ok : goal.returns-then-ok-clause-ok
-returns-then-ok-clause-ok c = was_cut _ _ _ _ (state_cut _ _ _ _ _ _ _ c.number-number.ensures.value c.push.ensures.events ∙ ap (λ b. cut_after c.args.len b c.next_mtime-mtime.result (files_of c.args.self.now c.args.file)) c.if-ok.true)
+returns-then-ok-clause-ok c = was_cut _ _ _ _ (state_cut _ _ _ _ _ _ _ c.number-number.ensures.value c.extend.ensures ∙ ap (λ b. cut_after c.args.len b c.next_mtime-mtime.result (files_of c.args.self.now c.args.file)) c.if-ok.true)
 
 pub returns-else-ok-clause-err : goal.returns-else-ok-clause-err
-returns-else-ok-clause-err c = tried_cut _ _ _ _ _ (state_cut _ _ _ _ _ _ _ c.number-number.ensures.value c.push.ensures.events)
-
-pub invariant_of-self-clause-no_crash_since : goal.invariant_of-self-clause-no_crash_since
-invariant_of-self-clause-no_crash_since c = c.push.ensures.crashes refl _ c.args.self.now.no_crash_since
-
-pub invariant_of-self-else-ok-clause-no_crash_since : goal.invariant_of-self-else-ok-clause-no_crash_since
-invariant_of-self-else-ok-clause-no_crash_since c = c.push.ensures.crashes refl _ c.args.self.now.no_crash_since
+returns-else-ok-clause-err c = tried_cut _ _ _ _ _ (state_cut _ _ _ _ _ _ _ c.number-number.ensures.value c.extend.ensures)
