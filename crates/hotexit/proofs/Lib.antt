@@ -1,3 +1,4 @@
 mod Settings
 mod TooLong
 mod Played
+mod Guarded

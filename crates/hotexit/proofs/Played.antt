@@ -1,5 +1,5 @@
 -- How a run ends by how far its script was played.
-use Rattle.std.specs.Prelude.{◌≡◌, ℕ, false, List, [], reverse, refl}
+use Rattle.std.specs.Prelude.{◌≡◌, ℕ, Bool, List, [], reverse, refl}
 use Rattle.std.proofs.Common.{sym, ◌∙◌, subst, inl, inr}
 use Rattle.hx_events.specs.declared.life.Life.{Life}
 use Rattle.hx_script.specs.declared.script.Step.{Step}
@@ -41,10 +41,10 @@ to_end P ToTheEnd OpenFault ends done written unprinted opening memory = absurd 
 to_end P ToAnOpening end ends done written unprinted opening memory = subst P (sym ends) (opening refl)
 to_end P ToWantOfMemory end ends done written unprinted opening memory = subst P (sym ends) (memory refl)
 
-pub followed : (halt : Halt) (end : End) (declared : List (List ℕ)) (steps : List Step) (lives : List Life) → EndsAs halt end → (halt ≡ ToTheEnd → Follows false declared (reverse steps) lives)
-    → (halt ≡ ToAnOpening → StopsAtOpening false declared steps lives) → (halt ≡ ToWantOfMemory → StopsForMemory false declared steps lives) → FollowTo end declared steps lives
-followed halt end declared steps lives ends done opening memory = to_end (λ e. FollowTo e declared steps lives) halt end ends done done (λ is. inr (done is)) opening (λ is. inl (memory is))
+pub followed : (halt : Halt) (end : End) (guarded : Bool) (declared : List (List ℕ)) (steps : List Step) (lives : List Life) → EndsAs halt end → (halt ≡ ToTheEnd → Follows guarded declared (reverse steps) lives)
+    → (halt ≡ ToAnOpening → StopsAtOpening guarded declared steps lives) → (halt ≡ ToWantOfMemory → StopsForMemory guarded declared steps lives) → FollowTo end guarded declared steps lives
+followed halt end guarded declared steps lives ends done opening memory = to_end (λ e. FollowTo e guarded declared steps lives) halt end ends done done (λ is. inr (done is)) opening (λ is. inl (memory is))
 
-pub ran : (halt : Halt) (end : End) (declared : List (List ℕ)) (steps : List Step) (lives : List Life) → EndsAs halt end → (halt ≡ ToTheEnd → HaveRun declared steps lives)
-    → (halt ≡ ToAnOpening → lives ≡ []) → (halt ≡ ToWantOfMemory → HaveRunInPart declared steps lives) → RunTo end declared steps lives
-ran halt end declared steps lives ends done opening memory = to_end (λ e. RunTo e declared steps lives) halt end ends done done (λ is. inr (done is)) opening (λ is. inl (memory is))
+pub ran : (halt : Halt) (end : End) (guarded : Bool) (declared : List (List ℕ)) (steps : List Step) (lives : List Life) → EndsAs halt end → (halt ≡ ToTheEnd → HaveRun guarded declared steps lives)
+    → (halt ≡ ToAnOpening → lives ≡ []) → (halt ≡ ToWantOfMemory → HaveRunInPart guarded declared steps lives) → RunTo end guarded declared steps lives
+ran halt end guarded declared steps lives ends done opening memory = to_end (λ e. RunTo e guarded declared steps lives) halt end ends done done (λ is. inr (done is)) opening (λ is. inl (memory is))

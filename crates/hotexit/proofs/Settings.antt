@@ -6,7 +6,7 @@ use Rattle.std.proofs.lemmas.List.{append-nil}
 use Rattle.std.proofs.lemmas.List.Sums.{sum_by-cons}
 use Rattle.hotexit.specs.declared.words.Setting.{Setting}
 use Rattle.hotexit.specs.declared.words.Setting.TheVariants.{Fail, Fuse}
-use Rattle.hotexit.specs.Words.{are_few, command_in, fails_of, first_setting, fuse_of, is_fail, is_fuse, later_of, order_in, order_of, run_in, run_of, settings_before, texts_of}
+use Rattle.hotexit.specs.Words.{are_few, command_in, fails_of, first_setting, fuse_of, is_fail, is_fuse, later_of, order_in, order_of, run_in, run_of, settings_before, texts_of, workers_behind}
 
 -- where a setting stands in front, and where none does
 pub record More (words : List (String Global)) (s : Setting) : Type 0 where
@@ -105,13 +105,12 @@ no_setting [] few = refl
 no_setting (a ∷ []) few = refl
 no_setting (a ∷ b ∷ words) few = absurd (omega (arith, few))
 
--- no words of a run
-pub no_run : (words : List (String Global)) → (length words ≡ 1 → ⊥) → (length words ≡ 3 → ⊥) → run_of (texts_of words) ≡ None
-no_run [] one three = refl
-no_run (a ∷ []) one three = absurd (one refl)
-no_run (a ∷ b ∷ []) one three = refl
-no_run (a ∷ b ∷ c ∷ []) one three = absurd (three refl)
-no_run (a ∷ b ∷ c ∷ d ∷ words) one three = refl
+-- neither no words nor two
+pub no_workers : (guarded : Bool) (words : List (String Global)) → (length words ≡ 0 → ⊥) → (length words ≡ 2 → ⊥) → workers_behind guarded (texts_of words) ≡ None
+no_workers guarded [] none two = absurd (none refl)
+no_workers guarded (a ∷ []) none two = refl
+no_workers guarded (a ∷ b ∷ []) none two = absurd (two refl)
+no_workers guarded (a ∷ b ∷ c ∷ words) none two = refl
 
 pub no_order : (words : List (String Global)) → (length words ≡ 1 → ⊥) → (length words ≡ 2 → ⊥) → order_of (texts_of words) ≡ None
 no_order [] one two = refl

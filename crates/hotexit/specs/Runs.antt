@@ -20,17 +20,17 @@ abbrev pub run_refusal : List ℕ → Option (ℕ × Why)
 run_refusal input = refusal_of (script_in Run input)
 
 -- Which lives a run has made, by how it ended. Where memory ran out the life may be whole, and it was its text that found none.
-abbrev pub RunTo : End → List (List ℕ) → List Step → List Life → Type 0
-RunTo Done declared steps lives = HaveRun declared steps lives
-RunTo WriteFault declared steps lives = HaveRun declared steps lives
-RunTo OpenFault declared steps lives = lives ≡ []
-RunTo NoMemory declared steps lives = HaveRunInPart declared steps lives ⊎ HaveRun declared steps lives
-RunTo end declared steps lives = ⊥
+abbrev pub RunTo : End → Bool → List (List ℕ) → List Step → List Life → Type 0
+RunTo Done guarded declared steps lives = HaveRun guarded declared steps lives
+RunTo WriteFault guarded declared steps lives = HaveRun guarded declared steps lives
+RunTo OpenFault guarded declared steps lives = lives ≡ []
+RunTo NoMemory guarded declared steps lives = HaveRunInPart guarded declared steps lives ⊎ HaveRun guarded declared steps lives
+RunTo end guarded declared steps lives = ⊥
 
 -- The source's script was planted and its windows ran in these lives, from the moment a on and from the count of faults
 -- `start`; the disk came to the moment b and to the count `count`.
-pub record HasBeenRun (picked : ℕ → FileState → List ℕ) (tells : Bool) (past : Past) (input : List ℕ) (end : End) (a start b count : ℕ) (lives : List Life) : Type 0 where
+pub record HasBeenRun (picked : ℕ → FileState → List ℕ) (tells : Bool) (past : Past) (guarded : Bool) (input : List ℕ) (end : End) (a start b count : ℕ) (lives : List Life) : Type 0 where
   pub script : Script
   pub reads : script_in Run input ≡ Reads script
-  pub ran : RunTo end script.names script.steps lives
+  pub ran : RunTo end guarded script.names script.steps lives
   pub played : ArePlayed picked tells past (reverse script.slots) a start b count lives

@@ -30,7 +30,7 @@ use Rattle.hotexit.specs.declared.words.Task.TheVariants.{Replay, Restore, Made}
 
 -- the script that a task plays: the one that was read, or the one that is generated
 abbrev pub script_of : Task → List ℕ → Reading Script
-script_of Replay input = script_in ForReplay input
+script_of (Replay guarded) input = script_in ForReplay input
 script_of Restore input = script_in ForRestore input
 script_of (Made n) input = Reads (made_script n)
 
@@ -41,7 +41,7 @@ restored_text (life ∷ lives) = pair_lines 0 life.base
 
 -- What is printed of the lives, the oldest first: they themselves, what was restored, or the counts.
 abbrev pub text_of : Task → List Life → List ℕ
-text_of Replay lives = trace_text lives
+text_of (Replay guarded) lives = trace_text lives
 text_of Restore lives = restored_text lives
 text_of (Made n) lives = summary_text n lives
 
@@ -59,7 +59,7 @@ judged_text (Refused line why) = []
 abbrev pub reads_source : Option Order → Bool
 reads_source None = false
 reads_source (Some Check) = true
-reads_source (Some (Play Replay)) = true
+reads_source (Some (Play (Replay guarded))) = true
 reads_source (Some (Play Restore)) = true
 reads_source (Some (Play (Made n))) = false
 
@@ -80,19 +80,24 @@ printed (Some Check) input lives = judged_text (trace_in input)
 printed (Some (Play task)) input lives = text_of task lives
 
 -- Which lives the steps have made, by how the run ended. The lives are read newest first, the steps oldest first.
-abbrev pub FollowTo : End → List (List ℕ) → List Step → List Life → Type 0
-FollowTo Done declared steps lives = FollowsTo AtTheEnd false declared steps lives
-FollowTo WriteFault declared steps lives = FollowsTo AtTheEnd false declared steps lives
-FollowTo OpenFault declared steps lives = FollowsTo AtAnOpening false declared steps lives
-FollowTo NoMemory declared steps lives = FollowsTo ForMemory false declared steps lives
-FollowTo end declared steps lives = ⊥
+abbrev pub FollowTo : End → Bool → List (List ℕ) → List Step → List Life → Type 0
+FollowTo Done guarded declared steps lives = FollowsTo AtTheEnd guarded declared steps lives
+FollowTo WriteFault guarded declared steps lives = FollowsTo AtTheEnd guarded declared steps lives
+FollowTo OpenFault guarded declared steps lives = FollowsTo AtAnOpening guarded declared steps lives
+FollowTo NoMemory guarded declared steps lives = FollowsTo ForMemory guarded declared steps lives
+FollowTo end guarded declared steps lives = ⊥
+
+-- are the task's lives guarded?
+abbrev pub is_guarded : Task → Bool
+is_guarded (Replay guarded) = guarded
+is_guarded task = false
 
 -- The task's script was planted and its steps made these lives, the newest first, from the moment a on and from the count of
 -- faults `start`; the disk came to the moment b and to the count `count`.
 pub record HavePlayed (picked : ℕ → FileState → List ℕ) (tells : Bool) (past : Past) (task : Task) (input : List ℕ) (end : End) (a start b count : ℕ) (lives : List Life) : Type 0 where
   pub script : Script
   pub reads : script_of task input ≡ Reads script
-  pub follow : FollowTo end script.names script.steps lives
+  pub follow : FollowTo end (is_guarded task) script.names script.steps lives
   pub played : ArePlayed picked tells past (reverse script.slots) a start b count lives
 
 -- No call of the disk was made, and there are no lives.

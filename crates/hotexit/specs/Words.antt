@@ -10,6 +10,7 @@ use Rattle.hotexit.specs.declared.words.DiskChoice.{DiskChoice}
 use Rattle.hotexit.specs.declared.words.DiskChoice.TheVariants.{Memory}
 use Rattle.hotexit.specs.declared.words.Order.{Order}
 use Rattle.hotexit.specs.declared.words.Order.TheVariants.{Check, Play}
+use Rattle.hotexit.specs.declared.words.RunOrder.{RunOrder}
 
 -- the bytes of each word
 abbrev pub texts_of : List (String Global) → List (List ℕ)
@@ -73,15 +74,22 @@ made_order (Some n) = if nat_lt 0 n && nat_le n 1000 then Some (Play (Made n)) e
 
 abbrev pub plain_order : List ℕ → Option Order
 plain_order word =
-    if bytes_eq word (codes "replay") then Some (Play Replay)
+    if bytes_eq word (codes "replay") then Some (Play (Replay false))
     else if bytes_eq word (codes "restore") then Some (Play Restore)
     else if bytes_eq word (codes "check") then Some Check
     else None
 
--- `replay`, `restore`, `check`, and `made` with a number; nothing follows
+-- `made` with a number, and `replay` in guarded lives
+abbrev pub second_order : List ℕ → List ℕ → Option Order
+second_order word second =
+    if bytes_eq word (codes "made") then made_order (decimal_value second)
+    else if bytes_eq word (codes "replay") && bytes_eq second (codes "--guarded") then Some (Play (Replay true))
+    else None
+
+-- `replay`, `restore`, `check`, `made` with a number, and `replay --guarded`; nothing follows
 abbrev pub order_of : List (List ℕ) → Option Order
 order_of (word ∷ []) = plain_order word
-order_of (word ∷ number ∷ []) = if bytes_eq word (codes "made") then made_order (decimal_value number) else None
+order_of (word ∷ second ∷ []) = second_order word second
 order_of words = None
 
 -- a generated script has a number from 1 to 1,000
@@ -106,14 +114,39 @@ abbrev pub workers_of : Option ℕ → Option ℕ
 workers_of None = None
 workers_of (Some n) = if nat_lt 0 n && nat_le n 4 then Some n else None
 
--- `run` is with two writers and two savers, `run --workers` with as many of each as its number says; nothing follows
-abbrev pub run_of : List (List ℕ) → Option ℕ
-run_of (word ∷ []) = if bytes_eq word (codes "run") then Some 2 else None
-run_of (word ∷ flag ∷ number ∷ []) = if bytes_eq word (codes "run") && bytes_eq flag (codes "--workers") then workers_of (decimal_value number) else None
-run_of words = None
+-- a run with so many writers and as many savers, of a guarded life or of a plain one
+abbrev pub run_with : Bool → Option ℕ → Option RunOrder
+run_with guarded None = None
+run_with guarded (Some n) = Some record { workers = n; guarded = guarded }
 
--- how many workers of each kind the words ask a run for, if they are a run's command line
-unfoldable pub run_in : List (List ℕ) → Option ℕ
+-- is it the word `run`, and the word that asks for guarded lives?
+abbrev pub is_run_word : List ℕ → Bool
+is_run_word word = bytes_eq word (codes "run")
+
+abbrev pub is_guarded_word : List ℕ → Bool
+is_guarded_word word = bytes_eq word (codes "--guarded")
+
+-- the words `--workers` and a number
+abbrev pub workers_in : List ℕ → List ℕ → Option ℕ
+workers_in flag number = if bytes_eq flag (codes "--workers") then workers_of (decimal_value number) else None
+
+-- Behind `run`: two writers and two savers, or with `--workers` as many of each as its number says. Nothing follows.
+abbrev pub workers_behind : Bool → List (List ℕ) → Option RunOrder
+workers_behind guarded [] = run_with guarded (Some 2)
+workers_behind guarded (flag ∷ number ∷ []) = run_with guarded (workers_in flag number)
+workers_behind guarded words = None
+
+-- before that `--guarded` asks for a guarded life
+abbrev pub run_behind : List (List ℕ) → Option RunOrder
+run_behind [] = workers_behind false []
+run_behind (first ∷ words) = if is_guarded_word first then workers_behind true words else workers_behind false (first ∷ words)
+
+abbrev pub run_of : List (List ℕ) → Option RunOrder
+run_of [] = None
+run_of (word ∷ words) = if is_run_word word then run_behind words else None
+
+-- the run that the words ask for, if they are a run's command line
+unfoldable pub run_in : List (List ℕ) → Option RunOrder
 run_in words = if are_few (settings_before words) then run_of (command_in words) else None
 
 -- the numbers of the calls that fail, in their order

@@ -11,6 +11,8 @@ mod sessions_of_backups;
 #[cfg(test)]
 mod sessions_of_blocks;
 #[cfg(test)]
+mod sessions_of_guards;
+#[cfg(test)]
 mod sessions_of_saves;
 mod whole;
 mod words;

@@ -21,7 +21,7 @@ fn text_of(alloc: Global, task: Task, lives: &[Life]) -> Result<Vec<u8>, AllocEr
     ensures { IfOk result (λ text. text.items ≡ text_of task lives.now) }
 {
     match task {
-        Task::Replay => out(alloc, lives),
+        Task::Replay { guarded: _ } => out(alloc, lives),
         Task::Restore => match lives {
             [life, ..] => pairs(alloc, life.base.as_slice()),
             [] => Ok(Vec::new(alloc)),

@@ -2,6 +2,7 @@
 
 ghost use Rattle.std.specs.Prelude.{◌≡◌, ◌≢◌, ◌≤◌, ◌⊎◌, ◌↔◌, [], IsTrue, Some, None, ℕ, reverse};
 ghost use Rattle.hx_faults.specs.Faults.{Rose};
+ghost use Rattle.hx_guarded_laws.specs.Lives.{HaveKept};
 ghost use Rattle.hx_io.specs.Streams.{AddsFront, Grows, added};
 ghost use Rattle.hx_lives.specs.Chained.{faults_of};
 ghost use Rattle.hx_play.specs.Played.{ArePlayed};
@@ -11,10 +12,11 @@ ghost use Rattle.hx_script.specs.declared.why.Why.{Why};
 ghost use Rattle.hotexit.specs.Runs.{HasBeenRun, RunTo, run_refusal};
 ghost use Rattle.hotexit.specs.Whole.{IsBeforeDisk, IsDoneOrNoMemory, IsOfInput, IsOfPlay, IsSilent, IsUntouched};
 ghost use Rattle.hotexit.specs.Words.{IsWorkers, run_in, texts_of};
+ghost use Rattle.hotexit.specs.declared.words.RunOrder.{RunOrder};
 
 use crate::reading::read_as;
 use crate::whole::{End, Finished, print_played, stopped};
-use crate::words::{Task, run_in};
+use crate::words::{RunOrder, Task, run_in};
 use hx_actors::Gate;
 use hx_disk::Disk;
 use hx_io::{Sink, Source};
@@ -29,16 +31,17 @@ fn run<R: Threads + Wait + Sync, K: Sink, D: Disk + Send, G: Gate + Sync>(
     rt: &R,
     alloc: Global,
     script: Script,
-    workers: u32,
+    order: RunOrder,
     sink: &mut K,
     disk: D,
     gate: &G,
 ) -> Finished<D>
     requires well_made { IsWellMade script }
-    requires workers { IsWorkers workers }
+    requires workers { IsWorkers order.workers }
     ensures ends { IsOfPlay result.end }
-    ensures ran { RunTo result.end script.names script.steps (reverse result.lives.items) }
+    ensures ran { RunTo result.end order.guarded script.names script.steps (reverse result.lives.items) }
     ensures played { ArePlayed D.picked D.tells (D.past result.disk) (reverse script.slots) (D.time disk) (D.failures disk) (D.time result.disk) (D.failures result.disk) (reverse result.lives.items) }
+    ensures kept { IsTrue D.tells → HaveKept (D.past result.disk) (D.time result.disk) (reverse result.lives.items) }
     ensures done { result.end ≡ End.Done → added (K.taken sink.old) (K.taken sink.new) ≡ trace_text result.lives.items }
     ensures front { result.end ≡ End.WriteFault → AddsFront (trace_text result.lives.items) (K.taken sink.old) (K.taken sink.new) }
     ensures silent { IsSilent result.end → sink.new ≡ sink.old }
@@ -48,8 +51,15 @@ fn run<R: Threads + Wait + Sync, K: Sink, D: Disk + Send, G: Gate + Sync>(
     ensures no_fault { result.end ≡ End.Done → K.failures sink.new ≡ K.failures sink.old }
     ensures later { K.failures sink.old ≤ K.failures sink.new }
 {
-    let played = run_script(rt, alloc, script, workers, disk, gate);
-    print_played(alloc, Task::Replay, sink, played)
+    let played = run_script(rt, alloc, script, order.workers, order.guarded, disk, gate);
+    print_played(
+        alloc,
+        Task::Replay {
+            guarded: order.guarded,
+        },
+        sink,
+        played,
+    )
 }
 
 /// Runs windows, writers and savers at once, where the words ask for that, and prints their life. `top` serves all other words.
@@ -78,9 +88,11 @@ pub fn top_run<R: Threads + Wait + Sync, S: Source, K: Sink, D: Disk + Send, G: 
     ensures front { result.end ≡ End.WriteFault → AddsFront (trace_text result.lives.items) (K.taken sink.old) (K.taken sink.new) }
     ensures silent { IsSilent result.end → sink.new ≡ sink.old }
 
-    // Which life there is, what holds of it and of the disk before and behind it, and whatever a crash leaves.
-    ensures played { IsOfInput result.end → HasBeenRun D.picked D.tells (D.past result.disk) (added (S.given source.old) (S.given source.new)) result.end (D.time disk) (D.failures disk) (D.time result.disk) (D.failures result.disk) (reverse result.lives.items) }
-    ensures memory { result.end ≡ End.NoMemory → IsUntouched disk result.disk result.lives.items ⊎ HasBeenRun D.picked D.tells (D.past result.disk) (added (S.given source.old) (S.given source.new)) End.NoMemory (D.time disk) (D.failures disk) (D.time result.disk) (D.failures result.disk) (reverse result.lives.items) }
+    // Which life there is, what holds of it and of the disk before and behind it, and whatever a crash leaves. A guarded one has
+    // kept, at each moment, the newest version of each copy that was saved or backed up.
+    ensures played { (order : RunOrder) → run_in (texts_of words.now) ≡ Some order → IsOfInput result.end → HasBeenRun D.picked D.tells (D.past result.disk) order.guarded (added (S.given source.old) (S.given source.new)) result.end (D.time disk) (D.failures disk) (D.time result.disk) (D.failures result.disk) (reverse result.lives.items) }
+    ensures memory { (order : RunOrder) → run_in (texts_of words.now) ≡ Some order → result.end ≡ End.NoMemory → IsUntouched disk result.disk result.lives.items ⊎ HasBeenRun D.picked D.tells (D.past result.disk) order.guarded (added (S.given source.old) (S.given source.new)) End.NoMemory (D.time disk) (D.failures disk) (D.time result.disk) (D.failures result.disk) (reverse result.lives.items) }
+    ensures kept { IsTrue D.tells → HaveKept (D.past result.disk) (D.time result.disk) (reverse result.lives.items) }
     ensures untouched { IsBeforeDisk result.end → IsUntouched disk result.disk result.lives.items }
 
     // Where the source tells what is left, it was read to its end, or what is left is refused as a whole.
@@ -96,8 +108,8 @@ pub fn top_run<R: Threads + Wait + Sync, S: Source, K: Sink, D: Disk + Send, G: 
 {
     match run_in(words) {
         None => stopped(alloc, End::Usage, disk),
-        Some(workers) => match read_as(alloc, source, Form::Run) {
-            Ok(script) => run(rt, alloc, script, workers, sink, disk, gate),
+        Some(order) => match read_as(alloc, source, Form::Run) {
+            Ok(script) => run(rt, alloc, script, order, sink, disk, gate),
             Err(end) => stopped(alloc, end, disk),
         },
     }

@@ -1,5 +1,6 @@
 use crate::sessions_of_backups::BACKUPS;
 use crate::sessions_of_blocks::BLOCKS;
+use crate::sessions_of_guards::GUARDS;
 use crate::sessions_of_saves::SAVES;
 use crate::whole::{End, Finished, top};
 use crate::words::{DiskChoice, disk_words};
@@ -67,7 +68,7 @@ pub fn run(alloc: Global, words: &str, script: &str) -> Result<Ran, AllocError> 
     run_with(alloc, &words, script.as_bytes(), None, 100_000)
 }
 
-// What a replay prints is a legal trace.
+// What a replay prints is a legal trace, unless its lives are guarded: a trace is judged as one of plain lives.
 fn plays_as_said(rt: &impl Abort, alloc: Global, session: &Session) -> Result<(), Fail> {
     let ran = run_with(alloc, &session.words, &session.script, None, 2_000_000)?;
     assert_eq!(rt; ran.end, End::Done);
@@ -76,7 +77,11 @@ fn plays_as_said(rt: &impl Abort, alloc: Global, session: &Session) -> Result<()
         "{:?}",
         session.words
     );
-    if ran.output.starts_with(b"hotexit trace 1\n") {
+    let plain = !session
+        .words
+        .iter()
+        .any(|word| word.as_str() == "--guarded");
+    if plain && ran.output.starts_with(b"hotexit trace 1\n") {
         let judged = run_with(alloc, &words_in(alloc, "check")?, &ran.output, None, 100)?;
         assert_eq!(rt; judged.output.as_slice(), b"legal\n".as_slice());
     }
@@ -146,6 +151,11 @@ fn play_all(rt: &impl Abort, alloc: Global, text: &str) -> Result<(), Fail> {
         Some(done) => plays_as_said(rt, alloc, done),
         None => Ok(()),
     }
+}
+
+#[test]
+fn sessions_of_guards(rt: HostRuntime) -> Result<(), Fail> {
+    play_all(&rt, rt.alloc(), GUARDS)
 }
 
 #[test]
@@ -348,12 +358,18 @@ fn the_largest_generated_script(rt: HostRuntime) -> Result<(), Fail> {
 // The words, the script with `;` for each line feed, and how the run ends.
 const ENDS: &str = "\
 replay x < hotexit 1; => Usage
+replay --guarded --guarded < hotexit 1; => Usage
+--guarded replay < hotexit 1; => Usage
+restore --guarded < hotexit 1; => Usage
+made --guarded < hotexit 1; => Usage
+made 1 --guarded < hotexit 1; => Usage
 --fail 0 replay < hotexit 1; => Usage
 --fuse 1 --fuse 1 replay < hotexit 1; => Usage
 made 0 < hotexit 1; => Usage
 made 1001 < hotexit 1; => Usage
 run < hotexit 1; => Usage
 --fail 1 replay < hotexit 1; => OpenFault
+--fail 1 replay --guarded < hotexit 1; => OpenFault
 --fail 256 restore < hotexit 1; => OpenFault
 replay < hotexit 1;file file:///a;w0 create file:///a => BadScript { line: 3, why: NoEnd }
 replay < hotexit 1;file file:///a;w0 edit file:///a 0 0 =%G1; => BadScript { line: 3, why: Escape }

@@ -66,11 +66,17 @@ fn one_window(rt: HostRuntime) -> Result<(), Fail> {
 const ENDS: &str = "\
 replay < hotexit 1; => Usage
 run --workers < hotexit 1; => Usage
+run --workers 2 --guarded < hotexit 1; => Usage
+run --guarded --workers < hotexit 1; => Usage
+run --guarded --workers 5 < hotexit 1; => Usage
+run --guarded --guarded < hotexit 1; => Usage
+replay --guarded < hotexit 1; => Usage
 run --workers 0 < hotexit 1; => Usage
 run --workers 5 < hotexit 1; => Usage
 run --workers 02 < hotexit 1; => Usage
 run --fail 300 < hotexit 1; => Usage
 --fail 256 run < hotexit 1; => OpenFault
+--fail 256 run --guarded < hotexit 1; => OpenFault
 run < hotexit 1;file file:///a;b0 vault file:///a; => BadScript { line: 3, why: Place }
 run --workers 4 < hotexit 1;restart; => BadScript { line: 2, why: Place }";
 
@@ -274,17 +280,18 @@ fn replays_the_same<R: Threads + Wait + Abort + Sync>(
     rt: &R,
     alloc: Global,
     seed: u64,
+    guarded: &str,
 ) -> Result<(), Fail> {
     let fail = 257 + next(seed) % 80;
     let workers = 1 + seed % 4;
-    let words = format!(in alloc; "--fail {fail} run --workers {workers}")?;
+    let words = format!(in alloc; "--fail {fail} run{guarded} --workers {workers}")?;
     let script = some_commands(alloc, seed)?;
     let ran = run_at_once(rt, alloc, &words, &script, &OpenGate)?;
     assert!(rt; ran.end == End::Done);
     let Ok(output) = str::from_utf8(&ran.output) else {
         return Err(Fail::from("a trace is no text"));
     };
-    let words = format!(in alloc; "--fail {fail} replay")?;
+    let words = format!(in alloc; "--fail {fail} replay{guarded}")?;
     let again = run(alloc, &words, &printed_events(alloc, output)?)?;
     assert!(rt; again.end == End::Done);
     assert!(rt;
@@ -298,7 +305,8 @@ fn replays_the_same<R: Threads + Wait + Abort + Sync>(
 fn what_ran_at_once_is_replayed(rt: HostRuntime) -> Result<(), Fail> {
     let alloc = rt.alloc();
     for seed in 1..=200 {
-        replays_the_same(&rt, alloc, seed)?;
+        replays_the_same(&rt, alloc, seed, "")?;
+        replays_the_same(&rt, alloc, seed, " --guarded")?;
     }
     Ok(())
 }

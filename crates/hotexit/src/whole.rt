@@ -2,6 +2,7 @@
 
 ghost use Rattle.std.specs.Prelude.{◌≡◌, ◌≢◌, ◌≤◌, ◌⊎◌, ◌↔◌, [], true, false, IsTrue, Some, None, ℕ, reverse};
 ghost use Rattle.hx_faults.specs.Faults.{Rose};
+ghost use Rattle.hx_guarded_laws.specs.Lives.{HaveKept};
 ghost use Rattle.hx_io.specs.Streams.{AddsFront, Grows, added};
 ghost use Rattle.hx_lives.specs.Chained.{faults_of};
 ghost use Rattle.hx_play.specs.Played.{ArePlayed};
@@ -9,7 +10,7 @@ ghost use Rattle.hx_report.specs.Traces.{AreWhole};
 ghost use Rattle.hx_script.specs.Scripts.{IsWellMade};
 ghost use Rattle.hx_script.specs.Traces.{trace_in};
 ghost use Rattle.hx_script.specs.declared.why.Why.{Why};
-ghost use Rattle.hotexit.specs.Whole.{EndsAs, FollowTo, HavePlayed, IsBeforeDisk, IsDoneOrNoMemory, IsOfCheck, IsOfInput, IsOfPlay, IsSilent, IsUntouched, judged_text, printed, reads_source, refusal, text_of};
+ghost use Rattle.hotexit.specs.Whole.{EndsAs, FollowTo, HavePlayed, IsBeforeDisk, IsDoneOrNoMemory, IsOfCheck, IsOfInput, IsOfPlay, IsSilent, IsUntouched, is_guarded, judged_text, printed, reads_source, refusal, text_of};
 ghost use Rattle.hotexit.specs.Words.{order_in, texts_of};
 ghost use Rattle.hotexit.specs.declared.words.Order.TheVariants.{Check, Play};
 ghost use Rattle.hotexit.specs.declared.words.Task.{Task};
@@ -96,6 +97,13 @@ fn judge<S: Source, K: Sink>(alloc: Global, source: &mut S, sink: &mut K) -> End
     }
 }
 
+/// Whether the task's lives are guarded.
+fn is_guarded(task: Task) -> bool
+    ensures { result ≡ is_guarded task }
+{
+    matches!(task, Task::Replay { guarded: true })
+}
+
 /// Plays the script and prints its lives.
 fn play<K: Sink, D: Disk>(
     alloc: Global,
@@ -106,8 +114,9 @@ fn play<K: Sink, D: Disk>(
 ) -> Finished<D>
     requires { IsWellMade script }
     ensures ends { IsOfPlay result.end }
-    ensures follow { FollowTo result.end script.names script.steps (reverse result.lives.items) }
+    ensures follow { FollowTo result.end (is_guarded task) script.names script.steps (reverse result.lives.items) }
     ensures played { ArePlayed D.picked D.tells (D.past result.disk) (reverse script.slots) (D.time disk) (D.failures disk) (D.time result.disk) (D.failures result.disk) (reverse result.lives.items) }
+    ensures kept { IsTrue D.tells → HaveKept (D.past result.disk) (D.time result.disk) (reverse result.lives.items) }
     ensures done { result.end ≡ End.Done → added (K.taken sink.old) (K.taken sink.new) ≡ text_of task result.lives.items }
     ensures front { result.end ≡ End.WriteFault → AddsFront (text_of task result.lives.items) (K.taken sink.old) (K.taken sink.new) }
     ensures silent { IsSilent result.end → sink.new ≡ sink.old }
@@ -117,7 +126,7 @@ fn play<K: Sink, D: Disk>(
     ensures no_fault { result.end ≡ End.Done → K.failures sink.new ≡ K.failures sink.old }
     ensures later { K.failures sink.old ≤ K.failures sink.new }
 {
-    let played = play_script(alloc, script, false, disk);
+    let played = play_script(alloc, script, is_guarded(task), disk);
     print_played(alloc, task, sink, played)
 }
 
@@ -184,9 +193,11 @@ pub fn top<S: Source, K: Sink, D: Disk>(
     ensures front { result.end ≡ End.WriteFault → AddsFront (printed (order_in (texts_of words.now)) (added (S.given source.old) (S.given source.new)) result.lives.items) (K.taken sink.old) (K.taken sink.new) }
     ensures silent { IsSilent result.end → sink.new ≡ sink.old }
 
-    // Which lives there are, what holds of them and of the disk before and behind them, and whatever a crash leaves.
+    // Which lives there are, what holds of them and of the disk before and behind them, and whatever a crash leaves. Guarded ones
+    // have kept, at each moment, the newest version of each copy that was saved or backed up.
     ensures played { (task : Task) → order_in (texts_of words.now) ≡ Some (Play task) → IsOfInput result.end → HavePlayed D.picked D.tells (D.past result.disk) task (added (S.given source.old) (S.given source.new)) result.end (D.time disk) (D.failures disk) (D.time result.disk) (D.failures result.disk) (reverse result.lives.items) }
     ensures memory { (task : Task) → order_in (texts_of words.now) ≡ Some (Play task) → result.end ≡ End.NoMemory → IsUntouched disk result.disk result.lives.items ⊎ HavePlayed D.picked D.tells (D.past result.disk) task (added (S.given source.old) (S.given source.new)) End.NoMemory (D.time disk) (D.failures disk) (D.time result.disk) (D.failures result.disk) (reverse result.lives.items) }
+    ensures kept { IsTrue D.tells → HaveKept (D.past result.disk) (D.time result.disk) (reverse result.lives.items) }
     ensures judged { order_in (texts_of words.now) ≡ Some Check → IsUntouched disk result.disk result.lives.items }
     ensures untouched { IsBeforeDisk result.end → IsUntouched disk result.disk result.lives.items }
 

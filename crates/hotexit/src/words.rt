@@ -2,7 +2,7 @@
 
 ghost use Rattle.std.specs.Prelude.{◌≡◌, ◌≤◌, ◌&&◌, ◌++◌, nat_le, [], ◌∷◌, drop, length, is_some, None, IfOk, OnOk, IfSome};
 ghost use Rattle.hx_base.specs.Decimals.{decimal_value};
-ghost use Rattle.hotexit.specs.Words.{IsChosen, IsOrder, IsWorkers, are_few, command_in, fails_of, first_setting, fuse_of, is_fail, is_fuse, later_of, made_order, order_in, order_of, plain_order, run_in, run_of, setting_in, setting_of, settings_before, texts_of, workers_of};
+ghost use Rattle.hotexit.specs.Words.{IsChosen, IsOrder, IsWorkers, are_few, command_in, fails_of, first_setting, fuse_of, is_fail, is_fuse, later_of, is_guarded_word, is_run_word, made_order, order_in, order_of, plain_order, run_behind, run_in, run_of, run_with, second_order, setting_in, setting_of, settings_before, texts_of, workers_behind, workers_in, workers_of};
 
 use hx_base::read_decimal;
 use hx_memdisk::Plan;
@@ -28,8 +28,8 @@ pub enum Setting {
 /// A script to be played, and what is printed of it.
 #[derive(Clone, Copy, Debug, PartialEq, Eq)]
 pub enum Task {
-    /// The source's script; its lives are printed.
-    Replay,
+    /// The source's script, in guarded lives or in plain ones; they are printed.
+    Replay { guarded: bool },
 
     /// The source's script, which only declares and plants; what the vault restores is printed.
     Restore,
@@ -45,6 +45,16 @@ pub enum Order {
     Check,
 
     Play(Task),
+}
+
+/// What a run is asked for.
+#[derive(Clone, Copy, Debug, PartialEq, Eq)]
+pub struct RunOrder {
+    /// How many writers it has, and as many savers.
+    pub workers: u32,
+
+    /// Whether its life is a guarded one.
+    pub guarded: bool,
 }
 
 /// The disk that the words name.
@@ -90,11 +100,25 @@ fn plain_order(word: &[u8]) -> Option<Order>
     ensures order { result ≡ plain_order word.now }
 {
     if word == b"replay".as_slice() {
-        Some(Order::Play(Task::Replay))
+        Some(Order::Play(Task::Replay { guarded: false }))
     } else if word == b"restore".as_slice() {
         Some(Order::Play(Task::Restore))
     } else if word == b"check".as_slice() {
         Some(Order::Check)
+    } else {
+        None
+    }
+}
+
+/// An order of two words.
+fn second_order(word: &[u8], second: &[u8]) -> Option<Order>
+    ensures task { IfSome result IsOrder }
+    ensures order { result ≡ second_order word.now second.now }
+{
+    if word == b"made".as_slice() {
+        made_order(second)
+    } else if word == b"replay".as_slice() && second == b"--guarded".as_slice() {
+        Some(Order::Play(Task::Replay { guarded: true }))
     } else {
         None
     }
@@ -106,13 +130,7 @@ fn order_of(command: &[String]) -> Option<Order>
 {
     match command {
         [word] => plain_order(word.as_bytes()),
-        [word, number] => {
-            if word.as_bytes() == b"made".as_slice() {
-                made_order(number.as_bytes())
-            } else {
-                None
-            }
-        }
+        [word, second] => second_order(word.as_bytes(), second.as_bytes()),
         _ => None,
     }
 }
@@ -195,21 +213,80 @@ fn workers_of(number: &[u8]) -> Option<u32>
     }
 }
 
-fn run_of(command: &[String]) -> Option<u32>
+fn workers_in(flag: &[u8], number: &[u8]) -> Option<u32>
     ensures few { IfSome result IsWorkers }
-    ensures workers { result ≡ run_of (texts_of command.now) }
+    ensures workers { result ≡ workers_in flag.now number.now }
 {
-    match command {
-        [word] => {
-            if word.as_bytes() == b"run".as_slice() {
-                Some(WORKERS)
+    if flag == b"--workers".as_slice() {
+        workers_of(number)
+    } else {
+        None
+    }
+}
+
+fn is_run_word(word: &[u8]) -> bool
+    ensures { result ≡ is_run_word word.now }
+{
+    word == b"run".as_slice()
+}
+
+fn is_guarded_word(word: &[u8]) -> bool
+    ensures { result ≡ is_guarded_word word.now }
+{
+    word == b"--guarded".as_slice()
+}
+
+fn run_with(guarded: bool, workers: Option<u32>) -> Option<RunOrder>
+    requires { IfSome workers IsWorkers }
+    ensures few { IfSome result (λ order. IsWorkers order.workers) }
+    ensures order { result ≡ run_with guarded workers }
+{
+    let workers = workers?;
+    Some(RunOrder { workers, guarded })
+}
+
+fn behind_first(words: &[String]) -> &[String]
+    requires { 1 ≤ length words.now }
+    ensures { result.now ≡ drop 1 words.now }
+{
+    &words[1..]
+}
+
+fn workers_behind(guarded: bool, words: &[String]) -> Option<RunOrder>
+    ensures few { IfSome result (λ order. IsWorkers order.workers) }
+    ensures order { result ≡ workers_behind guarded (texts_of words.now) }
+{
+    match words {
+        [] => run_with(guarded, Some(WORKERS)),
+        [flag, number] => run_with(guarded, workers_in(flag.as_bytes(), number.as_bytes())),
+        _ => None,
+    }
+}
+
+fn run_behind(words: &[String]) -> Option<RunOrder>
+    ensures few { IfSome result (λ order. IsWorkers order.workers) }
+    ensures order { result ≡ run_behind (texts_of words.now) }
+{
+    match words {
+        [first, ..] => {
+            if is_guarded_word(first.as_bytes()) {
+                workers_behind(true, behind_first(words))
             } else {
-                None
+                workers_behind(false, words)
             }
         }
-        [word, flag, number] => {
-            if word.as_bytes() == b"run".as_slice() && flag.as_bytes() == b"--workers".as_slice() {
-                workers_of(number.as_bytes())
+        _ => workers_behind(false, words),
+    }
+}
+
+fn run_of(command: &[String]) -> Option<RunOrder>
+    ensures few { IfSome result (λ order. IsWorkers order.workers) }
+    ensures order { result ≡ run_of (texts_of command.now) }
+{
+    match command {
+        [word, ..] => {
+            if is_run_word(word.as_bytes()) {
+                run_behind(behind_first(command))
             } else {
                 None
             }
@@ -218,11 +295,10 @@ fn run_of(command: &[String]) -> Option<u32>
     }
 }
 
-/// How many writers, and as many savers, the words ask a run for, or none exactly where they aren't a command line of
-/// `top_run`.
-pub fn run_in(words: &[String]) -> Option<u32>
-    ensures few { IfSome result IsWorkers }
-    ensures workers { result ≡ run_in (texts_of words.now) }
+/// The run that the words ask for, or none exactly where they aren't a command line of `top_run`.
+pub fn run_in(words: &[String]) -> Option<RunOrder>
+    ensures few { IfSome result (λ order. IsWorkers order.workers) }
+    ensures order { result ≡ run_in (texts_of words.now) }
 {
     match command_in(words) {
         Some(command) => run_of(command),

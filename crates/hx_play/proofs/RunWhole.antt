@@ -105,8 +105,8 @@ legal_behind : (o : Opening) (end before : List Entry) → is_legal o (end ++ be
 legal_behind o [] before legal = legal
 legal_behind o (e ∷ end) before legal = legal_behind o end before (past_legal o e (end ++ before) legal)
 
-run_whole : (declared : List (List ℕ)) (steps : List Step) (life : Life) → All (IsStepOf declared) steps → is_legal (opening (course_of life)) (course_of life).entries ≡ true → HasRun declared steps life → IsWhole life
-run_whole declared steps life all legal run =
+run_whole : (guarded : Bool) (declared : List (List ℕ)) (steps : List Step) (life : Life) → All (IsStepOf declared) steps → is_legal (opening (course_of life)) (course_of life).entries ≡ true → HasRun guarded declared steps life → IsWhole life
+run_whole guarded declared steps life all legal run =
     let o : Opening = opening (course_of life) in
     let le : length declared ≤ length life.names = subst (λ (names : List (List ℕ)). length declared ≤ length names) (sym run.named) (names_stay declared life.base) in
     let named : All (IsNamed (length life.names)) (scripts_of steps) = named_still (length declared) (length life.names) (scripts_of steps) le (all_scripts_named declared steps all) in
@@ -119,7 +119,7 @@ run_whole declared steps life all legal run =
     let whole : AreEntriesOf life.names (reverse life.history) = entries_known life.names o (as_many life) (reverse life.history) events legal in
     subst (AreEntriesOf life.names) (reverse-reverse life.history) (entries_reverse life.names (reverse life.history) whole)
 
-pub runs_whole : (picked : ℕ → FileState → List ℕ) (tells : Bool) (past : Past) (first b : ℕ) (declared : List (List ℕ)) (steps : List Step) (lives : List Life) → All (IsStepOf declared) steps → AreLived picked tells past first b lives → HaveRun declared steps lives → AreWhole (reverse lives)
-runs_whole picked tells past first b declared steps [] all lived run = absurd run
-runs_whole picked tells past first b declared steps (life ∷ []) all lived run = (run_whole declared steps life all lived.0.holds.legal run, tt)
-runs_whole picked tells past first b declared steps (life ∷ next ∷ lives) all lived run = absurd run
+pub runs_whole : (picked : ℕ → FileState → List ℕ) (tells : Bool) (past : Past) (first b : ℕ) (guarded : Bool) (declared : List (List ℕ)) (steps : List Step) (lives : List Life) → All (IsStepOf declared) steps → AreLived picked tells past first b lives → HaveRun guarded declared steps lives → AreWhole (reverse lives)
+runs_whole picked tells past first b guarded declared steps [] all lived run = absurd run
+runs_whole picked tells past first b guarded declared steps (life ∷ []) all lived run = (run_whole guarded declared steps life all lived.0.holds.legal run, tt)
+runs_whole picked tells past first b guarded declared steps (life ∷ next ∷ lives) all lived run = absurd run

@@ -1,6 +1,6 @@
 -- The life of a run: windows that make their commands at once, writers and savers beside them, and the Closer at its end.
 -- Entries are read newest first, steps oldest first. These rules are this project's own.
-use Rattle.std.specs.Prelude.{◌≡◌, ◌⊎◌, ℕ, zero, suc, true, false, List, [], ◌∷◌, ◌++◌, if◌then◌else◌}
+use Rattle.std.specs.Prelude.{◌≡◌, ◌⊎◌, ℕ, zero, suc, Bool, true, false, List, [], ◌∷◌, ◌++◌, if◌then◌else◌}
 use Rattle.hx_events.specs.declared.event.Command.{Command}
 use Rattle.hx_events.specs.declared.event.Event.TheVariants.{Act}
 use Rattle.hx_events.specs.declared.life.Ended.TheVariants.{Script, Cut}
@@ -35,21 +35,21 @@ with_command number command [] = []
 with_command zero command (script ∷ scripts) = (script ++ command ∷ []) ∷ scripts
 with_command (suc number) command (script ∷ scripts) = script ∷ with_command number command scripts
 
--- A whole run of these steps: a plain life, over the declared names and behind them the restored ones that aren't declared,
+-- A whole run of these steps: a life, guarded or not, over the declared names and behind them the restored ones that aren't declared,
 -- that ended with the script. Its history is that of windows that each made exactly their commands, of writers and savers,
 -- and of the Closer at the end. Nothing was due before its last question.
-pub record HasRun (declared : List (List ℕ)) (steps : List Step) (life : Life) : Type 0 where
+pub record HasRun (guarded : Bool) (declared : List (List ℕ)) (steps : List Step) (life : Life) : Type 0 where
   pub ended_so : life.ended ≡ Script
-  pub unguarded : life.guarded ≡ false
+  pub guarded_so : life.guarded ≡ guarded
   pub named : life.names ≡ with_restored declared life.base
   pub interleaves : Interleaves (opening (course_of life)) false (scripts_of steps) (course_of life).entries
   pub quiet : is_quiet_before_quit (opening (course_of life)) (course_of life).entries ≡ true
 
 -- A run of these steps that was cut off for want of memory: each window has made the first of its commands, all other entries
 -- are of writers and savers, and behind them stand some of the Closer's stages, where all work was done by then.
-pub record HasRunInPart (declared : List (List ℕ)) (steps : List Step) (life : Life) : Type 0 where
+pub record HasRunInPart (guarded : Bool) (declared : List (List ℕ)) (steps : List Step) (life : Life) : Type 0 where
   pub ended_so : life.ended ≡ Cut
-  pub unguarded : life.guarded ≡ false
+  pub guarded_so : life.guarded ≡ guarded
   pub named : life.names ≡ with_restored declared life.base
   pub stages : List Entry
   pub work : List Entry
@@ -59,13 +59,13 @@ pub record HasRunInPart (declared : List (List ℕ)) (steps : List Step) (life :
   pub turn : (stages ≡ []) ⊎ IsWorkOf (opening (course_of life)) false (scripts_of steps) work
 
 -- the one life of a run that came to its end
-abbrev pub HaveRun : List (List ℕ) → List Step → List Life → Type 0
-HaveRun declared steps [] = ⊥
-HaveRun declared steps (life ∷ []) = HasRun declared steps life
-HaveRun declared steps (life ∷ next ∷ lives) = ⊥
+abbrev pub HaveRun : Bool → List (List ℕ) → List Step → List Life → Type 0
+HaveRun guarded declared steps [] = ⊥
+HaveRun guarded declared steps (life ∷ []) = HasRun guarded declared steps life
+HaveRun guarded declared steps (life ∷ next ∷ lives) = ⊥
 
 -- the lives of a run for which memory ran out: none where no vault was opened, else one that was cut off
-abbrev pub HaveRunInPart : List (List ℕ) → List Step → List Life → Type 0
-HaveRunInPart declared steps [] = Unit {0}
-HaveRunInPart declared steps (life ∷ []) = HasRunInPart declared steps life
-HaveRunInPart declared steps (life ∷ next ∷ lives) = ⊥
+abbrev pub HaveRunInPart : Bool → List (List ℕ) → List Step → List Life → Type 0
+HaveRunInPart guarded declared steps [] = Unit {0}
+HaveRunInPart guarded declared steps (life ∷ []) = HasRunInPart guarded declared steps life
+HaveRunInPart guarded declared steps (life ∷ next ∷ lives) = ⊥

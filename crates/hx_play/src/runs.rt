@@ -36,8 +36,8 @@ use std::marker::Brand;
 use std::sync::Wait;
 use std::thread::Threads;
 
-/// Plants the script's slot files, and lets its windows make their commands in one plain life, each on a thread of its own where
-/// one can be made, with so many writers and as many savers beside them. Behind all of them the life ends as a program ends. A
+/// Plants the script's slot files, and lets its windows make their commands in one life, guarded or not, each on a thread of its own
+/// where one can be made, with so many writers and as many savers beside them. Behind all of them the life ends as a program ends. A
 /// script that was read is well made.
 ///
 /// It may wait for threads, so what is said of it holds if it returns.
@@ -46,6 +46,7 @@ pub fn run_script<R: Threads + Wait + Sync, D: Disk + Send, G: Gate + Sync>(
     alloc: Global,
     script: Script,
     workers: u32,
+    guarded: bool,
     mut disk: D,
     gate: &G,
 ) -> Played<D>
@@ -53,9 +54,9 @@ pub fn run_script<R: Threads + Wait + Sync, D: Disk + Send, G: Gate + Sync>(
     requires workers { (1 ≤ workers) × (workers ≤ 4) }
 
     // Which lives there are, by how far the run came.
-    ensures done { result.halt ≡ Halt.Done → HaveRun script.names script.steps result.lives.lives }
+    ensures done { result.halt ≡ Halt.Done → HaveRun guarded script.names script.steps result.lives.lives }
     ensures at_opening { result.halt ≡ Halt.OpenFault → result.lives.lives ≡ [] }
-    ensures for_memory { result.halt ≡ Halt.NoMemory → HaveRunInPart script.names script.steps result.lives.lives }
+    ensures for_memory { result.halt ≡ Halt.NoMemory → HaveRunInPart guarded script.names script.steps result.lives.lives }
 
     // What holds of them, and of what was planted before them, at every end. Those of a whole run can be printed.
     ensures played { ArePlayed D.picked D.tells (D.past result.disk) (reverse script.slots) (D.time disk) (D.failures disk) (D.time result.disk) (D.failures result.disk) result.lives.lives }
@@ -78,7 +79,7 @@ pub fn run_script<R: Threads + Wait + Sync, D: Disk + Send, G: Gate + Sync>(
         };
     };
     match plant(&mut disk, slots.as_slice()) {
-        Ok(()) => run(rt, alloc, &names, scripts, workers, disk, gate),
+        Ok(()) => run(rt, alloc, &names, scripts, workers, guarded, disk, gate),
         Err(PlantError::DiskFault) => Played {
             halt: Halt::OpenFault,
             disk,
@@ -99,6 +100,7 @@ fn run<R: Threads + Wait + Sync, D: Disk + Send, G: Gate + Sync>(
     names: &Names,
     scripts: Vec<Vec<Command>>,
     workers: u32,
+    guarded: bool,
     disk: D,
     gate: &G,
 ) -> Played<D>
@@ -107,15 +109,15 @@ fn run<R: Threads + Wait + Sync, D: Disk + Send, G: Gate + Sync>(
     requires lists { vec_len scripts ≡ 8 }
     requires workers { (1 ≤ workers) × (workers ≤ 4) }
     requires named { All (IsNamed (length names.now)) (map (λ s. s.items) scripts.items) }
-    ensures done { result.halt ≡ Halt.Done → (steps : List Step) → map (λ s. s.items) scripts.items ≡ scripts_of steps → HaveRun names.now steps result.lives.lives }
+    ensures done { result.halt ≡ Halt.Done → (steps : List Step) → map (λ s. s.items) scripts.items ≡ scripts_of steps → HaveRun guarded names.now steps result.lives.lives }
     ensures at_opening { result.halt ≡ Halt.OpenFault → result.lives.lives ≡ [] }
-    ensures for_memory { result.halt ≡ Halt.NoMemory → (steps : List Step) → map (λ s. s.items) scripts.items ≡ scripts_of steps → HaveRunInPart names.now steps result.lives.lives }
+    ensures for_memory { result.halt ≡ Halt.NoMemory → (steps : List Step) → map (λ s. s.items) scripts.items ≡ scripts_of steps → HaveRunInPart guarded names.now steps result.lives.lives }
     ensures over { AreOver D.picked D.tells (D.past result.disk) (D.time disk) (D.failures disk) (D.time result.disk) (D.failures result.disk) result.lives.lives }
     ensures runs { HasGoneOn D.time D.past D.failures disk result.disk }
     ensures cause { result.halt ≡ Halt.OpenFault → Rose (faults_of (D.failures disk) result.lives.lives) (D.failures result.disk) }
 {
     let mut lives = Lives::new(alloc);
-    let registry = match next_life(alloc, names, false, &mut lives, disk) {
+    let registry = match next_life(alloc, names, guarded, &mut lives, disk) {
         Ok(registry) => registry,
         Err(Stopped { halt, disk }) => return Played { halt, disk, lives },
     };

@@ -33,5 +33,5 @@ returns-in-Ok-plant-clause-played g c =
 
 pub returns-in-Ok-plant-clause-whole : goal.returns-in-Ok-plant-clause-whole
 returns-in-Ok-plant-clause-whole g c = λ done.
-    runs_whole g.D.Disk.picked g.D.Disk.tells (g.D.Disk.past c.run.result.disk) (g.D.Disk.time c.plant.new.disk) (g.D.Disk.time c.run.result.disk) c.args.script.names c.args.script.steps c.run.result.lives.lives c.requires.well_made.steps c.run.ensures.over.lived
+    runs_whole g.D.Disk.picked g.D.Disk.tells (g.D.Disk.past c.run.result.disk) (g.D.Disk.time c.plant.new.disk) (g.D.Disk.time c.run.result.disk) c.args.guarded c.args.script.names c.args.script.steps c.run.result.lives.lives c.requires.well_made.steps c.run.ensures.over.lived
     (c.run.ensures.done done c.args.script.steps (c.in-Ok.ensures.scripts ∙ ap scripts_of c.into_vec.ensures))
