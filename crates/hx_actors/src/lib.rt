@@ -10,6 +10,3 @@ mod tasks;
 pub use gate::{Gate, OpenGate};
 pub use running::{PARTS, run_all};
 pub use tasks::windows_at_work;
-
-#[cfg(test)]
-mod tests;

@@ -3,7 +3,5 @@
 #![tactic(auto)]
 
 mod backups;
-#[cfg(test)]
-mod tests;
 
 pub use backups::Backups;

@@ -5,8 +5,6 @@
 mod decimals;
 mod escapes;
 mod numbers;
-#[cfg(test)]
-mod tests;
 
 pub use decimals::{decimal, read_decimal};
 pub use escapes::{EscapeError, escape, unescape};

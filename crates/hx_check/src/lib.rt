@@ -8,10 +8,6 @@ mod lives;
 mod rows;
 mod sizes;
 mod sketch;
-#[cfg(test)]
-mod tests;
-#[cfg(test)]
-mod traces;
 mod verdict;
 
 pub use laws::a_trace_that_was_read_may_be_judged;

@@ -4,8 +4,6 @@
 
 mod errors;
 mod places;
-#[cfg(test)]
-mod tests;
 mod trail;
 mod working;
 

@@ -7,11 +7,7 @@
 mod machine;
 mod opening;
 mod readers;
-#[cfg(test)]
-mod sessions;
 mod step;
-#[cfg(test)]
-mod tests;
 
 pub use crate::machine::Core;
 pub use hx_resource::{Asked, BegunBackup, Got, Work};

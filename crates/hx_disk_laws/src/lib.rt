@@ -6,6 +6,3 @@ mod laws;
 
 pub use client::{ShutError, crash, shut, shut_both};
 pub use laws::{image_laws, left_laws, run_laws};
-
-#[cfg(test)]
-mod tests;

@@ -4,8 +4,6 @@
 mod conflict;
 mod digits;
 mod stat;
-#[cfg(test)]
-mod tests;
 
 pub use conflict::{conflicts, newer};
 pub use digits::etag;

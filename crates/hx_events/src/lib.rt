@@ -12,8 +12,6 @@ mod names;
 mod numbers;
 mod outcome;
 mod resource;
-#[cfg(test)]
-mod tests;
 mod texts;
 
 pub use backup::{Backup, CONTENT_MAX, PairFound, Side, SlotForm};

@@ -12,6 +12,3 @@
 mod ghost_list;
 
 pub use ghost_list::{GhostList, Lists};
-
-#[cfg(test)]
-mod tests;

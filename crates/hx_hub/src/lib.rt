@@ -12,6 +12,3 @@ mod office;
 pub use hub::{Acted, Founded, Hub, Staged};
 pub use hx_passes::Kind;
 pub use naming::{Named, Naming, Pass};
-
-#[cfg(test)]
-mod tests;

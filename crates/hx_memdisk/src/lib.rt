@@ -12,6 +12,3 @@ mod overlay;
 
 pub use course::Plan;
 pub use memdisk::MemDisk;
-
-#[cfg(test)]
-mod tests;

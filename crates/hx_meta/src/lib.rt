@@ -3,7 +3,5 @@
 #![tactic(auto)]
 
 mod object;
-#[cfg(test)]
-mod tests;
 
 pub use object::{Meta, MetaError, read, write};

@@ -5,8 +5,6 @@
 #![tactic(auto)]
 
 mod laws;
-#[cfg(test)]
-mod tests;
 
 pub use laws::{
     a_free_pair_is_there_where_the_rules_want_one, a_registry_begins_with_an_opened_vault,

@@ -14,6 +14,3 @@ pub use laws::a_history_reads_from_either_end;
 pub use passes::{Clerk, Opened, Pass, Passes};
 pub use rule::{Call, Finding, Kind, Known, Note};
 pub use words::Naming;
-
-#[cfg(test)]
-mod tests;

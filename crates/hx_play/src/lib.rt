@@ -10,8 +10,6 @@ mod playing;
 mod runs;
 mod scripts;
 mod steps;
-#[cfg(test)]
-mod tests;
 mod windows;
 
 pub use lives::Lives;

@@ -4,8 +4,6 @@
 
 mod error;
 mod reading;
-#[cfg(test)]
-mod tests;
 mod writing;
 
 pub use error::RecordError;

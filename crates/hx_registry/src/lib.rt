@@ -6,18 +6,12 @@
 mod begin;
 mod blocks;
 mod closing;
-#[cfg(test)]
-mod closing_tests;
 mod events;
 mod files;
 mod life;
 mod parts;
 mod registry;
-#[cfg(test)]
-mod sessions;
 mod stages;
-#[cfg(test)]
-mod tests;
 
 pub use begin::BeginError;
 pub use registry::Registry;

@@ -10,8 +10,6 @@ mod saves;
 mod share;
 mod tail_lines;
 mod tally;
-#[cfg(test)]
-mod tests;
 mod trace;
 mod trail;
 

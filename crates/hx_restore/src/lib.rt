@@ -7,8 +7,6 @@
 
 mod laws;
 mod restoring;
-#[cfg(test)]
-mod tests;
 mod value;
 
 pub use laws::what_a_restart_finds_of_a_resource;

@@ -11,8 +11,6 @@ mod outcomes;
 mod parts;
 mod reader;
 mod script;
-#[cfg(test)]
-mod tests;
 mod trace;
 mod trace_reader;
 mod values;

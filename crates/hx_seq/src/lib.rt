@@ -4,8 +4,6 @@
 #![tactic(auto)]
 
 mod sequencer;
-#[cfg(test)]
-mod tests;
 
 pub use hx_rules::{Asked, QueuedSave, Running, SaveAnswer};
 pub use sequencer::{Next, Sequencer};

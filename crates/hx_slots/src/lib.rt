@@ -9,8 +9,6 @@ mod frames;
 mod laws;
 mod pair;
 mod slot;
-#[cfg(test)]
-mod tests;
 
 pub use calls::{close_gate, open_gate, put_block};
 pub use frames::{frame, put_frame_head, shown};

@@ -6,8 +6,6 @@
 
 mod index;
 mod stages;
-#[cfg(test)]
-mod tests;
 
 pub use hx_rules::Flags;
 pub use index::DueIndex;

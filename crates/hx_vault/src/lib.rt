@@ -11,8 +11,6 @@ mod pair;
 mod scanning;
 mod sides;
 mod syncs;
-#[cfg(test)]
-mod tests;
 mod vault;
 
 pub use laws::{no_slot_shows_more_than_the_greatest_stamp, what_a_file_can_show};
