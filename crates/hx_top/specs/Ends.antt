@@ -1,5 +1,5 @@
 -- How the ends of a run are told outside. It is this project's own.
-use Rattle.std.specs.Prelude.{ℕ, List, codes}
+use Rattle.std.specs.Prelude.{ℕ, List, [], ◌++◌, codes, decimal}
 use Rattle.hx_script.specs.declared.why.Why.{Why}
 use Rattle.hx_script.specs.declared.why.Why.TheVariants.{TooLong, NoEnd, Header, Form, Place, TooMany, Number, Escape, Resource, Declared}
 use Rattle.hx_top.specs.declared.whole.End.{End}
@@ -27,3 +27,13 @@ why_name Number = codes "number"
 why_name Escape = codes "escape"
 why_name Resource = codes "resource"
 why_name Declared = codes "declared"
+
+-- what standard error says of an end, one line, and nothing where all went well
+abbrev pub error_text : End → List ℕ
+error_text Done = []
+error_text Usage = codes "usage: hotexit [--fail N]... [--fuse N] [--store DIR] replay, run [--workers N], restore, check or made N\n"
+error_text (BadScript line why) = codes "line " ++ decimal line ++ codes ": " ++ why_name why ++ codes "\n"
+error_text ReadFault = codes "input failed\n"
+error_text WriteFault = codes "output failed\n"
+error_text NoMemory = codes "out of memory\n"
+error_text OpenFault = codes "the vault could not be opened\n"

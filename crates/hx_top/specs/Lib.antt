@@ -2,3 +2,4 @@ pub mod Words
 pub mod Whole
 pub mod Ends
 pub mod Runs
+pub mod Program

@@ -63,6 +63,12 @@ reads_source (Some (Play (Replay guarded))) = true
 reads_source (Some (Play Restore)) = true
 reads_source (Some (Play (Made n))) = false
 
+-- the most bytes that are read, as a script or as a trace; what is longer is refused
+abbrev pub limit : Option Order → ℕ
+limit None = 0
+limit (Some Check) = 67108864
+limit (Some (Play task)) = 4194304
+
 -- the first bad line of what was read, with its reason
 abbrev pub refusal_of : {A : Type 0} → Reading A → Option (ℕ × Why)
 refusal_of (Reads value) = None

@@ -1,13 +1,13 @@
 //! What the source is read as.
 
-ghost use Rattle.std.specs.Prelude.{◌≡◌, ◌≤◌, [], true, false, All, IsTrue, IfOk, IfErr, OnOk, Err, Some, ℕ};
+ghost use Rattle.std.specs.Prelude.{◌≡◌, ◌≤◌, [], true, false, All, IsTrue, IfOk, IfErr, OnOk, Err, Some, ℕ, length};
 ghost use Rattle.hx_faults.specs.Faults.{Rose};
 ghost use Rattle.hx_io.specs.Streams.{Grows, added};
 ghost use Rattle.hx_script.specs.Readings.{Reads, Refused};
 ghost use Rattle.hx_script.specs.Scripts.{IsWellMade, script_in};
 ghost use Rattle.hx_script.specs.Traces.{IsWellRead, trace_in};
 ghost use Rattle.hx_script.specs.declared.why.Why.{Why};
-ghost use Rattle.hx_top.specs.Whole.{IsOfReading, reads_source, script_of};
+ghost use Rattle.hx_top.specs.Whole.{IsOfReading, limit, reads_source, script_of};
 ghost use Rattle.hx_top.specs.Words.{IsTask};
 ghost use Rattle.hx_top.specs.declared.words.Order.TheVariants.{Play};
 
@@ -37,6 +37,7 @@ pub fn read_as<S: Source>(alloc: Global, source: &mut S, form: Form) -> Result<S
     ensures told { IsTrue S.tells → IfOk result (λ _. (added (S.given source.old) (S.given source.new) ≡ S.left source.old) × (S.left source.new ≡ [])) }
     ensures told_refused { IsTrue S.tells → (line : ℕ) (why : Why) → result ≡ Err (End.BadScript line why) → script_in form (S.left source.old) ≡ Refused line why }
     ensures ends { IfErr result IsOfReading }
+    ensures short { result ≡ Err End.NoMemory → length (added (S.given source.old) (S.given source.new)) ≤ 4194304 }
     ensures fault { result ≡ Err End.ReadFault → Rose (S.failures source.old) (S.failures source.new) }
     ensures no_fault { OnOk result (S.failures source.new ≡ S.failures source.old) }
     ensures later { S.failures source.old ≤ S.failures source.new }
@@ -65,6 +66,7 @@ pub fn script_for<S: Source>(alloc: Global, task: Task, source: &mut S) -> Resul
     ensures told { IsTrue S.tells → reads_source (Some (Play task)) ≡ true → IfOk result (λ _. (added (S.given source.old) (S.given source.new) ≡ S.left source.old) × (S.left source.new ≡ [])) }
     ensures told_refused { IsTrue S.tells → (line : ℕ) (why : Why) → result ≡ Err (End.BadScript line why) → script_of task (S.left source.old) ≡ Refused line why }
     ensures ends { IfErr result IsOfReading }
+    ensures short { result ≡ Err End.NoMemory → length (added (S.given source.old) (S.given source.new)) ≤ limit (Some (Play task)) }
     ensures fault { result ≡ Err End.ReadFault → Rose (S.failures source.old) (S.failures source.new) }
     ensures no_fault { OnOk result (S.failures source.new ≡ S.failures source.old) }
     ensures later { S.failures source.old ≤ S.failures source.new }
@@ -85,6 +87,7 @@ pub fn trace_from<S: Source>(alloc: Global, source: &mut S) -> Result<Trace, End
     ensures told { IsTrue S.tells → IfOk result (λ _. (added (S.given source.old) (S.given source.new) ≡ S.left source.old) × (S.left source.new ≡ [])) }
     ensures told_refused { IsTrue S.tells → (line : ℕ) (why : Why) → result ≡ Err (End.BadScript line why) → trace_in (S.left source.old) ≡ Refused line why }
     ensures ends { IfErr result IsOfReading }
+    ensures short { result ≡ Err End.NoMemory → length (added (S.given source.old) (S.given source.new)) ≤ 67108864 }
     ensures fault { result ≡ Err End.ReadFault → Rose (S.failures source.old) (S.failures source.new) }
     ensures no_fault { OnOk result (S.failures source.new ≡ S.failures source.old) }
     ensures later { S.failures source.old ≤ S.failures source.new }

@@ -1,9 +1,10 @@
 //! The whole run of windows at once.
 
-ghost use Rattle.std.specs.Prelude.{◌≡◌, ◌≢◌, ◌≤◌, ◌⊎◌, ◌↔◌, [], IsTrue, Some, None, ℕ, reverse};
+ghost use Rattle.std.specs.Prelude.{◌≡◌, ◌≢◌, ◌≤◌, ◌⊎◌, ◌↔◌, [], IsTrue, Some, None, ℕ, length, reverse};
 ghost use Rattle.hx_faults.specs.Faults.{Rose};
 ghost use Rattle.hx_guarded_laws.specs.Lives.{HaveKept};
 ghost use Rattle.hx_io.specs.Streams.{AddsFront, Grows, added};
+ghost use Rattle.hx_lives.specs.Calls.{HasGoneOn};
 ghost use Rattle.hx_lives.specs.Chained.{faults_of};
 ghost use Rattle.hx_play.specs.Played.{ArePlayed};
 ghost use Rattle.hx_report.specs.Traces.{trace_text};
@@ -42,6 +43,7 @@ fn run<R: Threads + Wait + Sync, K: Sink, D: Disk + Send, G: Gate + Sync>(
     ensures ran { RunTo result.end order.guarded script.names script.steps (reverse result.lives.items) }
     ensures played { ArePlayed D.picked D.tells (D.past result.disk) (reverse script.slots) (D.time disk) (D.failures disk) (D.time result.disk) (D.failures result.disk) (reverse result.lives.items) }
     ensures kept { IsTrue D.tells → HaveKept (D.past result.disk) (D.time result.disk) (reverse result.lives.items) }
+    ensures runs { HasGoneOn D.time D.past D.failures disk result.disk }
     ensures done { result.end ≡ End.Done → added (K.taken sink.old) (K.taken sink.new) ≡ trace_text result.lives.items }
     ensures front { result.end ≡ End.WriteFault → AddsFront (trace_text result.lives.items) (K.taken sink.old) (K.taken sink.new) }
     ensures silent { IsSilent result.end → sink.new ≡ sink.old }
@@ -81,6 +83,7 @@ pub fn top_run<R: Threads + Wait + Sync, S: Source, K: Sink, D: Disk + Send, G: 
     ensures given { Grows (S.given source.old) (S.given source.new) }
     ensures bad_script { (line : ℕ) (why : Why) → result.end ≡ End.BadScript line why → run_refusal (added (S.given source.old) (S.given source.new)) ≡ Some (line, why) }
     ensures of_input { IsOfInput result.end → run_refusal (added (S.given source.old) (S.given source.new)) ≡ None }
+    ensures short { result.end ≡ End.NoMemory → length (added (S.given source.old) (S.given source.new)) ≤ 4194304 }
 
     // What was written: all of the text, or a front of it, or nothing.
     ensures taken { Grows (K.taken sink.old) (K.taken sink.new) }
@@ -88,11 +91,12 @@ pub fn top_run<R: Threads + Wait + Sync, S: Source, K: Sink, D: Disk + Send, G: 
     ensures front { result.end ≡ End.WriteFault → AddsFront (trace_text result.lives.items) (K.taken sink.old) (K.taken sink.new) }
     ensures silent { IsSilent result.end → sink.new ≡ sink.old }
 
-    // Which life there is, what holds of it and of the disk before and behind it, and whatever a crash leaves. A guarded one has
-    // kept, at each moment, the newest version of each copy that was saved or backed up.
+    // Which life there is, what holds of it and of the disk before and behind it, and whatever a crash leaves: the disk that comes
+    // back is the one that was given, gone on. A guarded life has kept, at each moment, the newest version of each copy that was saved or backed up.
     ensures played { (order : RunOrder) → run_in (texts_of words.now) ≡ Some order → IsOfInput result.end → HasBeenRun D.picked D.tells (D.past result.disk) order.guarded (added (S.given source.old) (S.given source.new)) result.end (D.time disk) (D.failures disk) (D.time result.disk) (D.failures result.disk) (reverse result.lives.items) }
     ensures memory { (order : RunOrder) → run_in (texts_of words.now) ≡ Some order → result.end ≡ End.NoMemory → IsUntouched disk result.disk result.lives.items ⊎ HasBeenRun D.picked D.tells (D.past result.disk) order.guarded (added (S.given source.old) (S.given source.new)) End.NoMemory (D.time disk) (D.failures disk) (D.time result.disk) (D.failures result.disk) (reverse result.lives.items) }
     ensures kept { IsTrue D.tells → HaveKept (D.past result.disk) (D.time result.disk) (reverse result.lives.items) }
+    ensures runs { HasGoneOn D.time D.past D.failures disk result.disk }
     ensures untouched { IsBeforeDisk result.end → IsUntouched disk result.disk result.lives.items }
 
     // Where the source tells what is left, it was read to its end, or what is left is refused as a whole.
@@ -104,7 +108,8 @@ pub fn top_run<R: Threads + Wait + Sync, S: Source, K: Sink, D: Disk + Send, G: 
     ensures write_fault { result.end ≡ End.WriteFault → Rose (K.failures sink.old) (K.failures sink.new) }
     ensures open_fault { result.end ≡ End.OpenFault → Rose (faults_of (D.failures disk) (reverse result.lives.items)) (D.failures result.disk) }
     ensures no_fault { result.end ≡ End.Done → (S.failures source.new ≡ S.failures source.old) × (K.failures sink.new ≡ K.failures sink.old) }
-    ensures complete { IsTrue S.tells → run_in (texts_of words.now) ≢ None → run_refusal (S.left source.old) ≡ None → (Rose (S.failures source.old) (S.failures source.new) → ⊥) → (Rose (K.failures sink.old) (K.failures sink.new) → ⊥) → (Rose (faults_of (D.failures disk) (reverse result.lives.items)) (D.failures result.disk) → ⊥) → IsDoneOrNoMemory result.end }
+    ensures complete { run_in (texts_of words.now) ≢ None → run_refusal (added (S.given source.old) (S.given source.new)) ≡ None → (Rose (S.failures source.old) (S.failures source.new) → ⊥) → (Rose (K.failures sink.old) (K.failures sink.new) → ⊥) → (Rose (faults_of (D.failures disk) (reverse result.lives.items)) (D.failures result.disk) → ⊥) → IsDoneOrNoMemory result.end }
+    ensures complete_told { IsTrue S.tells → run_in (texts_of words.now) ≢ None → run_refusal (S.left source.old) ≡ None → (Rose (S.failures source.old) (S.failures source.new) → ⊥) → (Rose (K.failures sink.old) (K.failures sink.new) → ⊥) → (Rose (faults_of (D.failures disk) (reverse result.lives.items)) (D.failures result.disk) → ⊥) → IsDoneOrNoMemory result.end }
 {
     match run_in(words) {
         None => stopped(alloc, End::Usage, disk),

@@ -1,16 +1,17 @@
 //! The whole run.
 
-ghost use Rattle.std.specs.Prelude.{◌≡◌, ◌≢◌, ◌≤◌, ◌⊎◌, ◌↔◌, [], true, false, IsTrue, Some, None, ℕ, reverse};
+ghost use Rattle.std.specs.Prelude.{◌≡◌, ◌≢◌, ◌≤◌, ◌⊎◌, ◌↔◌, [], true, false, IsTrue, Some, None, ℕ, length, reverse};
 ghost use Rattle.hx_faults.specs.Faults.{Rose};
 ghost use Rattle.hx_guarded_laws.specs.Lives.{HaveKept};
 ghost use Rattle.hx_io.specs.Streams.{AddsFront, Grows, added};
+ghost use Rattle.hx_lives.specs.Calls.{HasGoneOn};
 ghost use Rattle.hx_lives.specs.Chained.{faults_of};
 ghost use Rattle.hx_play.specs.Played.{ArePlayed};
 ghost use Rattle.hx_report.specs.Traces.{AreWhole};
 ghost use Rattle.hx_script.specs.Scripts.{IsWellMade};
 ghost use Rattle.hx_script.specs.Traces.{trace_in};
 ghost use Rattle.hx_script.specs.declared.why.Why.{Why};
-ghost use Rattle.hx_top.specs.Whole.{EndsAs, FollowTo, HavePlayed, IsBeforeDisk, IsDoneOrNoMemory, IsOfCheck, IsOfInput, IsOfPlay, IsSilent, IsUntouched, is_guarded, judged_text, printed, reads_source, refusal, text_of};
+ghost use Rattle.hx_top.specs.Whole.{EndsAs, FollowTo, HavePlayed, IsBeforeDisk, IsDoneOrNoMemory, IsOfCheck, IsOfInput, IsOfPlay, IsSilent, IsUntouched, is_guarded, judged_text, limit, printed, reads_source, refusal, text_of};
 ghost use Rattle.hx_top.specs.Words.{order_in, texts_of};
 ghost use Rattle.hx_top.specs.declared.words.Order.TheVariants.{Check, Play};
 ghost use Rattle.hx_top.specs.declared.words.Task.{Task};
@@ -76,6 +77,7 @@ fn judge<S: Source, K: Sink>(alloc: Global, source: &mut S, sink: &mut K) -> End
     ensures ends { IsOfCheck result }
     ensures refused { (line : ℕ) (why : Why) → result ≡ End.BadScript line why → refusal (Some Check) (added (S.given source.old) (S.given source.new)) ≡ Some (line, why) }
     ensures of_input { IsOfInput result → refusal (Some Check) (added (S.given source.old) (S.given source.new)) ≡ None }
+    ensures short { result ≡ End.NoMemory → length (added (S.given source.old) (S.given source.new)) ≤ limit (Some Check) }
     ensures given { Grows (S.given source.old) (S.given source.new) }
     ensures told { IsTrue S.tells → IsOfInput result → (added (S.given source.old) (S.given source.new) ≡ S.left source.old) × (S.left source.new ≡ []) }
     ensures told_refused { IsTrue S.tells → (line : ℕ) (why : Why) → result ≡ End.BadScript line why → refusal (Some Check) (S.left source.old) ≡ Some (line, why) }
@@ -117,6 +119,7 @@ fn play<K: Sink, D: Disk>(
     ensures follow { FollowTo result.end (is_guarded task) script.names script.steps (reverse result.lives.items) }
     ensures played { ArePlayed D.picked D.tells (D.past result.disk) (reverse script.slots) (D.time disk) (D.failures disk) (D.time result.disk) (D.failures result.disk) (reverse result.lives.items) }
     ensures kept { IsTrue D.tells → HaveKept (D.past result.disk) (D.time result.disk) (reverse result.lives.items) }
+    ensures runs { HasGoneOn D.time D.past D.failures disk result.disk }
     ensures done { result.end ≡ End.Done → added (K.taken sink.old) (K.taken sink.new) ≡ text_of task result.lives.items }
     ensures front { result.end ≡ End.WriteFault → AddsFront (text_of task result.lives.items) (K.taken sink.old) (K.taken sink.new) }
     ensures silent { IsSilent result.end → sink.new ≡ sink.old }
@@ -186,6 +189,7 @@ pub fn top<S: Source, K: Sink, D: Disk>(
     ensures given { Grows (S.given source.old) (S.given source.new) }
     ensures bad_script { (line : ℕ) (why : Why) → result.end ≡ End.BadScript line why → refusal (order_in (texts_of words.now)) (added (S.given source.old) (S.given source.new)) ≡ Some (line, why) }
     ensures of_input { IsOfInput result.end → refusal (order_in (texts_of words.now)) (added (S.given source.old) (S.given source.new)) ≡ None }
+    ensures short { result.end ≡ End.NoMemory → length (added (S.given source.old) (S.given source.new)) ≤ limit (order_in (texts_of words.now)) }
 
     // What was written: all of the text, or a front of it, or nothing.
     ensures taken { Grows (K.taken sink.old) (K.taken sink.new) }
@@ -193,11 +197,12 @@ pub fn top<S: Source, K: Sink, D: Disk>(
     ensures front { result.end ≡ End.WriteFault → AddsFront (printed (order_in (texts_of words.now)) (added (S.given source.old) (S.given source.new)) result.lives.items) (K.taken sink.old) (K.taken sink.new) }
     ensures silent { IsSilent result.end → sink.new ≡ sink.old }
 
-    // Which lives there are, what holds of them and of the disk before and behind them, and whatever a crash leaves. Guarded ones
-    // have kept, at each moment, the newest version of each copy that was saved or backed up.
+    // Which lives there are, what holds of them and of the disk before and behind them, and whatever a crash leaves: the disk that
+    // comes back is the one that was given, gone on, so that two calls in a row compose. Guarded lives have kept, at each moment, the newest version of each copy that was saved or backed up.
     ensures played { (task : Task) → order_in (texts_of words.now) ≡ Some (Play task) → IsOfInput result.end → HavePlayed D.picked D.tells (D.past result.disk) task (added (S.given source.old) (S.given source.new)) result.end (D.time disk) (D.failures disk) (D.time result.disk) (D.failures result.disk) (reverse result.lives.items) }
     ensures memory { (task : Task) → order_in (texts_of words.now) ≡ Some (Play task) → result.end ≡ End.NoMemory → IsUntouched disk result.disk result.lives.items ⊎ HavePlayed D.picked D.tells (D.past result.disk) task (added (S.given source.old) (S.given source.new)) End.NoMemory (D.time disk) (D.failures disk) (D.time result.disk) (D.failures result.disk) (reverse result.lives.items) }
     ensures kept { IsTrue D.tells → HaveKept (D.past result.disk) (D.time result.disk) (reverse result.lives.items) }
+    ensures runs { HasGoneOn D.time D.past D.failures disk result.disk }
     ensures judged { order_in (texts_of words.now) ≡ Some Check → IsUntouched disk result.disk result.lives.items }
     ensures untouched { IsBeforeDisk result.end → IsUntouched disk result.disk result.lives.items }
 
@@ -210,7 +215,9 @@ pub fn top<S: Source, K: Sink, D: Disk>(
     ensures write_fault { result.end ≡ End.WriteFault → Rose (K.failures sink.old) (K.failures sink.new) }
     ensures open_fault { result.end ≡ End.OpenFault → Rose (faults_of (D.failures disk) (reverse result.lives.items)) (D.failures result.disk) }
     ensures no_fault { result.end ≡ End.Done → (S.failures source.new ≡ S.failures source.old) × (K.failures sink.new ≡ K.failures sink.old) }
-    ensures complete { IsTrue S.tells → order_in (texts_of words.now) ≢ None → refusal (order_in (texts_of words.now)) (S.left source.old) ≡ None → (Rose (S.failures source.old) (S.failures source.new) → ⊥) → (Rose (K.failures sink.old) (K.failures sink.new) → ⊥) → (Rose (faults_of (D.failures disk) (reverse result.lives.items)) (D.failures result.disk) → ⊥) → IsDoneOrNoMemory result.end }
+    ensures never_by_check { order_in (texts_of words.now) ≡ Some Check → result.end ≢ End.OpenFault }
+    ensures complete { order_in (texts_of words.now) ≢ None → refusal (order_in (texts_of words.now)) (added (S.given source.old) (S.given source.new)) ≡ None → (Rose (S.failures source.old) (S.failures source.new) → ⊥) → (Rose (K.failures sink.old) (K.failures sink.new) → ⊥) → (Rose (faults_of (D.failures disk) (reverse result.lives.items)) (D.failures result.disk) → ⊥) → IsDoneOrNoMemory result.end }
+    ensures complete_told { IsTrue S.tells → order_in (texts_of words.now) ≢ None → refusal (order_in (texts_of words.now)) (S.left source.old) ≡ None → (Rose (S.failures source.old) (S.failures source.new) → ⊥) → (Rose (K.failures sink.old) (K.failures sink.new) → ⊥) → (Rose (faults_of (D.failures disk) (reverse result.lives.items)) (D.failures result.disk) → ⊥) → IsDoneOrNoMemory result.end }
 {
     match order_in(words) {
         None => stopped(alloc, End::Usage, disk),
