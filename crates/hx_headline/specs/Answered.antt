@@ -190,4 +190,4 @@ all_tickets_are_answered o (e ∷ es) c t legal quiet below asked =
     let before : own c (e ∷ es) ≡ own c es = leaves_others c e es (not_its_own c e.event (and_left (is_quit e.event) (is_quiet o es) quiet)) in
     ap (λ (ds : List Deed). is_some (answer t (save_steps (restored_at o c) ds))) before
     ∙ answered_if_quiet o es c t (and_right (is_row o es e.event e.outcome) (is_legal o es) legal) (and_right (is_quit e.event) (is_quiet o es) quiet) below
-      (sym (ap (λ (ds : List Deed). is_some (standing t (save_steps (restored_at o c) ds))) before) ∙ asked)
+    (sym (ap (λ (ds : List Deed). is_some (standing t (save_steps (restored_at o c) ds))) before) ∙ asked)
