@@ -49,7 +49,7 @@ pub by_run : (words : List (List ℕ)) (input before now : List ℕ) (end : End)
     → (end ≡ Done → added before now ≡ trace_text lives) → (end ≡ WriteFault → AddsFront (trace_text lives) before now)
     → ((order : RunOrder) → run_in words ≡ Some order → IsOfInput end → HasBeenRun pick_of true (past_of back) order.guarded input end (recorded disk) (faults_of disk) (recorded back) (faults_of back) (reverse lives))
     → HaveKept (past_of back) (recorded back) (reverse lives) → (end ≡ OpenFault → Rose (faults_over (faults_of disk) (reverse lives)) (faults_of back)) → HasServed words input before now end
-by_run words input before now end disk back lives is new runs done front ran kept open = record {
+by_run words input before now end disk back lives is new runs done front ran kept unopened = record {
   disk = disk;
   back = back;
   lives = lives;
@@ -60,14 +60,14 @@ by_run words input before now end disk back lives is new runs done front ran kep
   played = λ task none. not_neither (run_in words) is none;
   ran = ran;
   kept = kept;
-  open_fault = open;
+  open_fault = unopened;
 }
 
 pub by_top : (words : List (List ℕ)) (input before now : List ℕ) (end : End) (disk back : MemDisk) (lives : List Life) → is_some (run_in words) ≡ false → IsNewDisk words disk → HasGoneOn recorded past_of faults_of disk back
     → (end ≡ Done → added before now ≡ printed (order_in words) input lives) → (end ≡ WriteFault → AddsFront (printed (order_in words) input lives) before now)
     → ((task : Task) → order_in words ≡ Some (Play task) → IsOfInput end → HavePlayed pick_of true (past_of back) task input end (recorded disk) (faults_of disk) (recorded back) (faults_of back) (reverse lives))
     → HaveKept (past_of back) (recorded back) (reverse lives) → (end ≡ OpenFault → Rose (faults_over (faults_of disk) (reverse lives)) (faults_of back)) → HasServed words input before now end
-by_top words input before now end disk back lives is new runs done front played kept open = record {
+by_top words input before now end disk back lives is new runs done front played kept unopened = record {
   disk = disk;
   back = back;
   lives = lives;
@@ -78,5 +78,5 @@ by_top words input before now end disk back lives is new runs done front played 
   played = λ task none. played task;
   ran = λ order some. not_both (run_in words) order is some;
   kept = kept;
-  open_fault = open;
+  open_fault = unopened;
 }
