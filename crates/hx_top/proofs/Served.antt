@@ -9,7 +9,7 @@ use Rattle.hx_lives.specs.Calls.{HasGoneOn}
 use Rattle.hx_lives.specs.Chained.{faults_of as faults_over}
 use Rattle.hx_memdisk.specs.declared.memdisk.MemDisk.{MemDisk}
 use Rattle.hx_memdisk.specs.MemDisk.{faults_of, past_of, recorded}
-use Rattle.hx_memdisk.specs.Sound.{pick_of}
+use Rattle.hx_memdisk.specs.Replay.{pick_of}
 use Rattle.hx_report.specs.Traces.{trace_text}
 use Rattle.hx_script.specs.declared.why.Why.{Why}
 use Rattle.hx_top.specs.declared.whole.End.{End}

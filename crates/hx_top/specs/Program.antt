@@ -9,8 +9,7 @@ use Rattle.hx_lives.specs.Chained.{faults_of as faults_over}
 use Rattle.hx_memdisk.specs.declared.course.Plan.{Plan}
 use Rattle.hx_memdisk.specs.declared.memdisk.MemDisk.{MemDisk}
 use Rattle.hx_memdisk.specs.MemDisk.{course_of, faults_of, files_of, past_of, recorded}
-use Rattle.hx_memdisk.specs.Replay.{no_file}
-use Rattle.hx_memdisk.specs.Sound.{pick_of}
+use Rattle.hx_memdisk.specs.Replay.{no_file, pick_of}
 use Rattle.hx_report.specs.Traces.{trace_text}
 use Rattle.hx_script.specs.declared.why.Why.{Why}
 use Rattle.hx_top.specs.declared.program.NoWords.{NoWords}

@@ -1,6 +1,6 @@
 //! One run of the program: from its words and streams to its exit status.
 
-ghost use Rattle.std.specs.Prelude.{◌≡◌, ◌≢◌, ◌≤◌, ◌⊎◌, ◌×◌, IfErr, IfOk, None, Some, length, ℕ};
+ghost use Rattle.std.specs.Prelude.{◌++◌, ◌≡◌, ◌≢◌, ◌≤◌, ◌⊎◌, IfErr, IfOk, None, Some, length, ℕ};
 ghost use Rattle.std.specs.Process.{exit_status};
 ghost use Rattle.hx_faults.specs.Faults.{Rose};
 ghost use Rattle.hx_io.specs.Streams.{Grows, added};

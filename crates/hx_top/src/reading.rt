@@ -34,6 +34,7 @@ pub fn read_as<S: Source>(alloc: Global, source: &mut S, form: Form) -> Result<S
     ensures well_made { IfOk result IsWellMade }
     ensures refused { (line : ℕ) (why : Why) → result ≡ Err (End.BadScript line why) → script_in form (added (S.given source.old) (S.given source.new)) ≡ Refused line why }
     ensures grows { Grows (S.given source.old) (S.given source.new) }
+    ensures within { IfOk result (λ _. length (added (S.given source.old) (S.given source.new)) ≤ 4194304) }
     ensures told { IsTrue S.tells → IfOk result (λ _. (added (S.given source.old) (S.given source.new) ≡ S.left source.old) × (S.left source.new ≡ [])) }
     ensures told_refused { IsTrue S.tells → (line : ℕ) (why : Why) → result ≡ Err (End.BadScript line why) → script_in form (S.left source.old) ≡ Refused line why }
     ensures ends { IfErr result IsOfReading }
@@ -63,6 +64,7 @@ pub fn script_for<S: Source>(alloc: Global, task: Task, source: &mut S) -> Resul
     ensures refused { (line : ℕ) (why : Why) → result ≡ Err (End.BadScript line why) → script_of task (added (S.given source.old) (S.given source.new)) ≡ Refused line why }
     ensures unasked { reads_source (Some (Play task)) ≡ false → source.new ≡ source.old }
     ensures grows { Grows (S.given source.old) (S.given source.new) }
+    ensures within { IfOk result (λ _. length (added (S.given source.old) (S.given source.new)) ≤ limit (Some (Play task))) }
     ensures told { IsTrue S.tells → reads_source (Some (Play task)) ≡ true → IfOk result (λ _. (added (S.given source.old) (S.given source.new) ≡ S.left source.old) × (S.left source.new ≡ [])) }
     ensures told_refused { IsTrue S.tells → (line : ℕ) (why : Why) → result ≡ Err (End.BadScript line why) → script_of task (S.left source.old) ≡ Refused line why }
     ensures ends { IfErr result IsOfReading }
@@ -84,6 +86,7 @@ pub fn trace_from<S: Source>(alloc: Global, source: &mut S) -> Result<Trace, End
     ensures well_read { IfOk result (λ trace. All IsWellRead trace.lives) }
     ensures refused { (line : ℕ) (why : Why) → result ≡ Err (End.BadScript line why) → trace_in (added (S.given source.old) (S.given source.new)) ≡ Refused line why }
     ensures grows { Grows (S.given source.old) (S.given source.new) }
+    ensures within { IfOk result (λ _. length (added (S.given source.old) (S.given source.new)) ≤ 67108864) }
     ensures told { IsTrue S.tells → IfOk result (λ _. (added (S.given source.old) (S.given source.new) ≡ S.left source.old) × (S.left source.new ≡ [])) }
     ensures told_refused { IsTrue S.tells → (line : ℕ) (why : Why) → result ≡ Err (End.BadScript line why) → trace_in (S.left source.old) ≡ Refused line why }
     ensures ends { IfErr result IsOfReading }
