@@ -1,0 +1,17 @@
+//! Tests of the crates of texts, disks, backups and copies: rows, vectors and failures that no clause says.
+#![tactic(auto)]
+
+#[cfg(test)]
+mod base;
+#[cfg(test)]
+mod disk_laws;
+#[cfg(test)]
+mod etag;
+#[cfg(test)]
+mod events;
+#[cfg(test)]
+mod io;
+#[cfg(test)]
+mod memdisk;
+#[cfg(test)]
+mod tables;
