@@ -4,6 +4,8 @@
 #[cfg(test)]
 mod base;
 #[cfg(test)]
+mod copy;
+#[cfg(test)]
 mod disk_laws;
 #[cfg(test)]
 mod etag;
@@ -14,4 +16,16 @@ mod io;
 #[cfg(test)]
 mod memdisk;
 #[cfg(test)]
+mod meta;
+#[cfg(test)]
+mod record;
+#[cfg(test)]
+mod restore;
+#[cfg(test)]
+mod seq;
+#[cfg(test)]
+mod slots;
+#[cfg(test)]
 mod tables;
+#[cfg(test)]
+mod tracker;
