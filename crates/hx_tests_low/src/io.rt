@@ -34,8 +34,13 @@ fn reads(alloc: Global, mut row: Row) -> Result<bool, Fail> {
     let fails = listed(alloc, row.number())?;
     let mut source = MemSource::new(vec![in alloc; 7u8; length]?, fails);
     let end = match read_all(alloc, &mut source, limit) {
-        Ok(read) if read.len() == length => "read",
-        Ok(_) => "read less",
+        Ok(read) => {
+            if read.len() == length {
+                "read"
+            } else {
+                "read less"
+            }
+        }
         Err(ReadAllError::TooLong) => "toolong",
         Err(ReadAllError::ReadFault) => "failed",
         Err(ReadAllError::NoMemory) => "no memory",

@@ -18,6 +18,8 @@ mod memdisk;
 #[cfg(test)]
 mod meta;
 #[cfg(test)]
+mod passes;
+#[cfg(test)]
 mod record;
 #[cfg(test)]
 mod restore;
@@ -29,3 +31,5 @@ mod slots;
 mod tables;
 #[cfg(test)]
 mod tracker;
+#[cfg(test)]
+mod vault;
