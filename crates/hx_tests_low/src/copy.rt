@@ -107,7 +107,7 @@ fn comes_out(alloc: Global, copy: &mut WorkingCopy, line: &str) -> Result<bool, 
     let mut row = Row::new(line);
     let word = row.field();
     match word {
-        "content" => Ok(copy.content() == row.bytes(alloc)?.as_slice()),
+        "content" => row.has(alloc, copy.content()),
         "base" => Ok(copy.base() == row.stat()),
         "trail" => Ok(
             copy.can_undo() == (row.field() == "yes") && copy.can_redo() == (row.field() == "yes"),

@@ -21,14 +21,9 @@ fn two_files_are_shut_and_a_crash_keeps_them(rt: HostRuntime) -> Result<(), Fail
     crash(&mut disk, 0)?;
     assert!(rt; disk.bytes(FileNo::new(4)) == b"\0".as_slice());
     assert!(rt; disk.bytes(FileNo::new(5)) == b"\0".as_slice());
-    Ok(())
-}
 
-#[test]
-fn a_list_for_proofs_takes_no_room(rt: HostRuntime) {
     let mut bytes = GhostList::<u8>::new();
     bytes.extend(&b"abc".as_slice());
-    let mut lines = GhostList::<&str>::new();
-    lines.extend(&["first", "second"].as_slice());
-    assert!(rt; size_of_val(&bytes) + size_of_val(&lines) == 0);
+    assert!(rt; size_of_val(&bytes) == 0);
+    Ok(())
 }

@@ -4,8 +4,7 @@ ghost use Rattle.hx_events.specs.declared.event.Event.TheVariants.{Act};
 
 use crate::tables::Row;
 use hx_events::{
-    Actor, Bytes, Command, Event, Items, Names, Outcome, ResNo, Side, SlotForm, Stage, is_resource,
-    line, outcome_text,
+    Actor, Bytes, Command, Event, Names, Outcome, ResNo, Stage, is_resource, line, outcome_text,
 };
 use std::alloc::Global;
 use std::test::Fail;
@@ -327,15 +326,5 @@ fn events_and_outcomes_have_their_texts(rt: HostRuntime) -> Result<(), Fail> {
             "{each}"
         );
     }
-    Ok(())
-}
-
-#[test]
-fn lists_are_handed_back(rt: HostRuntime) -> Result<(), Fail> {
-    let sides = Items::new([Side::A, Side::B].to_vec(rt.alloc())?);
-    assert!(rt; sides.as_slice() == [Side::A, Side::B].as_slice());
-    assert!(rt; sides.into_vec().len() == 2);
-    let forms = Items::new([SlotForm::One].to_vec(rt.alloc())?);
-    assert!(rt; forms.into_vec().as_slice() == [SlotForm::One].as_slice());
     Ok(())
 }

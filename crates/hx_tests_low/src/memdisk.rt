@@ -199,7 +199,7 @@ fn has_stat(disk: &mut MemDisk, mut row: Row) -> bool {
 
 fn holds(alloc: Global, disk: &MemDisk, mut row: Row) -> Result<bool, Fail> {
     let file = file(&mut row);
-    Ok(disk.bytes(file) == row.bytes(alloc)?.as_slice())
+    row.has(alloc, disk.bytes(file))
 }
 
 // Whether a line comes out as it says.
@@ -268,7 +268,7 @@ fn fails_third(alloc: Global, mut disk: MemDisk, mut row: Row, next: bool) -> Re
     if call(&mut disk, file, row.field())? || disk.faults() != 1 {
         return Ok(false);
     }
-    if disk.bytes(file) != row.bytes(alloc)?.as_slice() || row.number() != Some(disk.moment()) {
+    if !row.has(alloc, disk.bytes(file))? || row.number() != Some(disk.moment()) {
         return Ok(false);
     }
     let stat = Row::new("1000 6").stat();

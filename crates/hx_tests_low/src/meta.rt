@@ -18,7 +18,7 @@ fn is_written(alloc: Global, mut row: Row) -> Result<bool, Fail> {
     }
     let type_id = Bytes::new(type_id);
     let written = write(alloc, &Meta { base, type_id })?;
-    Ok(written.as_slice() == row.bytes(alloc)?.as_slice())
+    row.has(alloc, &written)
 }
 
 #[test]
@@ -58,7 +58,7 @@ const READ: &str = r#"={"typeId":""} none =
 
 fn is_read(alloc: Global, mut row: Row) -> Result<bool, Fail> {
     let meta = read(alloc, &row.bytes(alloc)?)?;
-    Ok(meta.base == row.stat() && meta.type_id.as_slice() == row.bytes(alloc)?.as_slice())
+    Ok(meta.base == row.stat() && row.has(alloc, meta.type_id.as_slice())?)
 }
 
 // Texts that are no object.

@@ -25,7 +25,7 @@ fn is_written(alloc: Global, mut row: Row) -> Result<bool, Fail> {
         return Ok(false);
     }
     let record = encode(alloc, &backup)?;
-    Ok(record.as_slice() == row.bytes(alloc)?.as_slice())
+    row.has(alloc, &record)
 }
 
 #[test]

@@ -70,7 +70,7 @@ fn is_found(alloc: Global, found: &PairFound, mut row: Row) -> Result<bool, Fail
                 Side::A => "a",
                 Side::B => "b",
             };
-            Ok(word == wanted && backup.content.as_slice() == row.bytes(alloc)?.as_slice())
+            Ok(word == wanted && row.has(alloc, backup.content.as_slice())?)
         }
     }
 }

@@ -4,7 +4,7 @@ use std::alloc::Global;
 use std::test::Fail;
 
 /// The fields of a line, with a blank between each two.
-#[derive(Drop)]
+#[derive(Clone, Copy)]
 pub struct Row<'a> {
     rest: &'a str,
 }
@@ -43,6 +43,11 @@ impl<'a> Row<'a> {
     /// The bytes of the next field, which is `=` and an escaped text.
     pub fn bytes(&mut self, alloc: Global) -> Result<Vec<u8>, Fail> {
         Ok(unescape(alloc, self.text().as_bytes())?)
+    }
+
+    /// Whether the next field, which is `=` and an escaped text, stands for these bytes.
+    pub fn has(&mut self, alloc: Global, bytes: &[u8]) -> Result<bool, Fail> {
+        Ok(self.bytes(alloc)?.as_slice() == bytes)
     }
 
     /// The bytes of the next field of hexadecimal digits.

@@ -1,7 +1,7 @@
 use crate::tables::Row;
 use hx_backups::Backups;
 use hx_events::{ResNo, Stage};
-use hx_tracker::{DueIndex, Flags, due};
+use hx_tracker::{Flags, due};
 use std::alloc::AllocError;
 use std::test::Fail;
 
@@ -69,23 +69,6 @@ fn a_dirty_copy_is_backed_up_and_a_clean_one_discarded(rt: HostRuntime) {
         }
         assert!(rt; due(flags) == stage, "{line}");
     }
-}
-
-#[test]
-fn an_index_gives_the_lowest_number(rt: HostRuntime) {
-    let mut index = DueIndex::new();
-    assert!(rt; index.lowest().is_none());
-    for number in [255, 64, 63] {
-        index.put(ResNo::new(number), true);
-    }
-    for number in [63, 64, 255] {
-        let res = ResNo::new(number);
-        assert!(rt; index.has(res), "{number}");
-        assert!(rt; index.lowest() == Some(res), "{number}");
-        index.put(res, false);
-        assert!(rt; !index.has(res), "{number}");
-    }
-    assert!(rt; index.lowest().is_none());
 }
 
 // Calls on a list of backups, and what is found then.
