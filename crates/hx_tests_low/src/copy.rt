@@ -1,4 +1,4 @@
-use crate::tables::Row;
+use crate::tables::{Row, repeated};
 use hx_copy::{EditError, WorkingCopy};
 use hx_etag::Stat;
 use hx_events::{Bytes, CONTENT_MAX};
@@ -11,45 +11,52 @@ const STAT: Stat = Stat {
 };
 
 // Calls on a copy that was created empty, and behind each the version, the alternative id and whether the copy is dirty. A line `new`
-// begins anew. The other lines say what else is found.
+// begins anew, and a line `full` with a content that is as long as may be. The other lines say what else is found.
 const CALLS: &str = "\
 new
-edit 0 =a 2 2 dirty
-edit 1 =b 3 3 dirty
+edit 0 0 =a 2 2 dirty
+edit 1 0 =b 3 3 dirty
 undo 4 2 dirty
 undo 5 1 clean
 trail no yes
 new
-edit 0 =a 2 2 dirty
-edit 1 =b 3 3 dirty
+edit 0 0 =a 2 2 dirty
+edit 1 0 =b 3 3 dirty
 undo 4 2 dirty
 undo 5 1 clean
 redo 6 2 dirty
-edit 1 =c 7 7 dirty
+edit 1 0 =c 7 7 dirty
 trail yes no
 content =ac
 new
-edit 0 =hello 2 2 dirty
+edit 0 0 =hello 2 2 dirty
 undo 3 1 clean
 new
-edit 0 =a 2 2 dirty
+edit 0 0 =a 2 2 dirty
 saved 2 2 2 clean
-edit 1 =b 3 3 dirty
+edit 1 0 =b 3 3 dirty
 undo 4 2 clean
 new
-edit 0 =a 2 2 dirty
+edit 0 0 =a 2 2 dirty
 undo 3 1 clean
 saved 2 3 1 clean
 new
-edit 0 =a 2 2 dirty
+edit 0 0 =a 2 2 dirty
 undo 3 1 clean
 redo 4 2 dirty
 saved 2 4 2 dirty
 saved 4 4 2 clean
-edit 0 =b 5 5 dirty
+edit 0 0 =b 5 5 dirty
 reverted =c 6 6 clean
 base 2000 1
-content =c";
+content =c
+full
+edit 524288 0 = 2 2 dirty
+refused 0 0 =y toolarge
+edit 0 1 =y 3 3 dirty
+refused 1 18446744073709551615 = outofcontent
+refused 524288 1 = outofcontent
+front =yx";
 
 fn undo(copy: &mut WorkingCopy) -> Result<(), AllocError> {
     if copy.version() < u64::MAX && copy.can_undo() {
@@ -67,12 +74,27 @@ fn redo(copy: &mut WorkingCopy) -> Result<(), AllocError> {
     Ok(())
 }
 
-fn edit(copy: &mut WorkingCopy, off: u64, text: &[u8]) -> Result<(), Fail> {
-    if copy.version() < u64::MAX {
-        copy.reserve(text.len())?;
-        copy.edit(off, 0, text)?;
+fn edit(
+    alloc: Global,
+    copy: &mut WorkingCopy,
+    row: &mut Row,
+) -> Result<Result<u64, EditError>, Fail> {
+    let off = row.number().unwrap_or(0);
+    let del = row.number().unwrap_or(0);
+    let text = row.bytes(alloc)?;
+    if copy.version() == u64::MAX {
+        return Err(Fail::from("no version is left"));
     }
-    Ok(())
+    copy.reserve(text.len())?;
+    Ok(copy.edit(off, del, &text))
+}
+
+fn is_refused(alloc: Global, copy: &mut WorkingCopy, mut row: Row) -> Result<bool, Fail> {
+    match edit(alloc, copy, &mut row)? {
+        Err(EditError::TooLarge) => Ok(row.field() == "toolarge"),
+        Err(EditError::OutOfContent) => Ok(row.field() == "outofcontent"),
+        _ => Ok(false),
+    }
 }
 
 fn revert(copy: &mut WorkingCopy, text: Vec<u8>) {
@@ -84,9 +106,7 @@ fn revert(copy: &mut WorkingCopy, text: Vec<u8>) {
 fn made(alloc: Global, copy: &mut WorkingCopy, word: &str, row: &mut Row) -> Result<(), Fail> {
     match word {
         "edit" => {
-            let off = row.number().unwrap_or(0);
-            let text = row.bytes(alloc)?;
-            edit(copy, off, &text)?;
+            let _ = edit(alloc, copy, row)?;
         }
         "undo" => undo(copy)?,
         "redo" => redo(copy)?,
@@ -102,16 +122,26 @@ fn is_left(copy: &WorkingCopy, row: &mut Row) -> bool {
         && copy.is_dirty() == (row.field() == "dirty")
 }
 
+fn has_trail(copy: &WorkingCopy, mut row: Row) -> bool {
+    let back = row.field() == "yes";
+    let ahead = row.field() == "yes";
+    copy.can_undo() == back && copy.can_redo() == ahead
+}
+
+fn has_front(alloc: Global, copy: &WorkingCopy, mut row: Row) -> Result<bool, Fail> {
+    Ok(copy.content().starts_with(&row.bytes(alloc)?))
+}
+
 // Whether a line comes out as it says.
 fn comes_out(alloc: Global, copy: &mut WorkingCopy, line: &str) -> Result<bool, Fail> {
     let mut row = Row::new(line);
     let word = row.field();
     match word {
         "content" => row.has(alloc, copy.content()),
+        "front" => has_front(alloc, copy, row),
         "base" => Ok(copy.base() == row.stat()),
-        "trail" => Ok(
-            copy.can_undo() == (row.field() == "yes") && copy.can_redo() == (row.field() == "yes"),
-        ),
+        "trail" => Ok(has_trail(copy, row)),
+        "refused" => is_refused(alloc, copy, row),
         _ => {
             made(alloc, copy, word, &mut row)?;
             Ok(is_left(copy, &mut row))
@@ -119,53 +149,24 @@ fn comes_out(alloc: Global, copy: &mut WorkingCopy, line: &str) -> Result<bool, 
     }
 }
 
-fn created(alloc: Global) -> WorkingCopy {
-    WorkingCopy::new(alloc, Bytes::new(Vec::new(alloc)), None, true, 1)
+fn created(alloc: Global, content: Vec<u8>) -> WorkingCopy {
+    WorkingCopy::new(alloc, Bytes::new(content), None, true, 1)
 }
 
 #[test]
-fn the_saved_state_is_clean_on_the_trail(rt: HostRuntime) -> Result<(), Fail> {
-    let mut copy = created(rt.alloc());
+fn the_saved_state_is_clean_on_the_trail_and_edits_stay_within_the_limit(
+    rt: HostRuntime,
+) -> Result<(), Fail> {
+    let alloc = rt.alloc();
+    let mut copy = created(alloc, Vec::new(alloc));
     for line in CALLS.lines() {
         if line == "new" {
-            copy = created(rt.alloc());
+            copy = created(alloc, Vec::new(alloc));
+        } else if line == "full" {
+            copy = created(alloc, repeated(alloc, b"x", CONTENT_MAX)?);
         } else {
-            assert!(rt; comes_out(rt.alloc(), &mut copy, line)?, "{line}");
+            assert!(rt; comes_out(alloc, &mut copy, line)?, "{line}");
         }
     }
-    Ok(())
-}
-
-// An edit of a content that is as long as may be: where, how many bytes go, the text that comes, and the answer.
-const EDITS: &str = "\
-524288 0 = 2
-0 0 =y toolarge
-0 1 =y 3
-1 18446744073709551615 = outofcontent
-524288 1 = outofcontent";
-
-fn answers(alloc: Global, copy: &mut WorkingCopy, mut row: Row) -> Result<bool, Fail> {
-    let off = row.number().unwrap_or(0);
-    let del = row.number().unwrap_or(0);
-    let text = row.bytes(alloc)?;
-    if copy.version() == u64::MAX {
-        return Ok(false);
-    }
-    match copy.edit(off, del, &text) {
-        Ok(version) => Ok(row.number() == Some(version)),
-        Err(EditError::TooLarge) => Ok(row.field() == "toolarge"),
-        Err(EditError::OutOfContent) => Ok(row.field() == "outofcontent"),
-        Err(EditError::NoMemory) => Ok(false),
-    }
-}
-
-#[test]
-fn an_edit_stays_within_the_content_and_its_limit(rt: HostRuntime) -> Result<(), Fail> {
-    let full = vec![in rt.alloc(); b'x'; CONTENT_MAX as usize]?;
-    let mut copy = WorkingCopy::new(rt.alloc(), Bytes::new(full), None, true, 1);
-    for line in EDITS.lines() {
-        assert!(rt; answers(rt.alloc(), &mut copy, Row::new(line))?, "{line}");
-    }
-    assert!(rt; copy.content().starts_with(b"yx"));
     Ok(())
 }

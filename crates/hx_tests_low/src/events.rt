@@ -2,7 +2,7 @@ ghost use Rattle.std.specs.Prelude.{◌≡◌, ◌<◌, length, IfOk};
 ghost use Rattle.hx_events.specs.Texts.{IsEventOf, IsOutcomeOf, resource_of};
 ghost use Rattle.hx_events.specs.declared.event.Event.TheVariants.{Act};
 
-use crate::tables::Row;
+use crate::tables::{Row, repeated};
 use hx_events::{
     Actor, Bytes, Command, Event, Names, Outcome, ResNo, Stage, is_resource, line, outcome_text,
 };
@@ -20,8 +20,33 @@ fn one_name(alloc: Global) -> Result<(Names, ResNo), Fail>
     }
 }
 
+fn is_found(names: &Names, byte: u8) -> bool {
+    match names.find(&[byte]) {
+        Some(res) => res.number() == u32::from(byte),
+        None => false,
+    }
+}
+
+// How often a byte is repeated, the byte, and whether that is the name of a resource.
+const RESOURCES: &str = "\
+0 =a no
+1 =! yes
+1000 =~ yes
+1001 =a no
+3 =%20 no
+3 =%7F no
+3 =%FF no";
+
+fn is_judged(alloc: Global, mut row: Row) -> Result<bool, Fail> {
+    let count = row.number().unwrap_or(0);
+    let text = repeated(alloc, &row.bytes(alloc)?, count)?;
+    Ok(is_resource(&text) == (row.field() == "yes"))
+}
+
 #[test]
-fn a_list_takes_256_names_and_finds_each(rt: HostRuntime) -> Result<(), Fail> {
+fn a_list_takes_256_names_of_1_to_1000_printable_bytes_and_finds_each(
+    rt: HostRuntime,
+) -> Result<(), Fail> {
     let alloc = rt.alloc();
     let mut names = Names::new(alloc);
     for byte in 0..=255u8 {
@@ -31,36 +56,10 @@ fn a_list_takes_256_names_and_finds_each(rt: HostRuntime) -> Result<(), Fail> {
     }
     assert!(rt; names.len() == 256);
     for byte in 0..=255u8 {
-        let Some(res) = names.find(&[byte]) else {
-            return Err(Fail::new(format_args!("no name {byte}")));
-        };
-        assert!(rt; res.number() == u32::from(byte), "{byte}");
-        assert!(rt; names.text(res) == [byte].as_slice(), "{byte}");
+        assert!(rt; is_found(&names, byte), "{byte}");
     }
-    Ok(())
-}
-
-// How often a byte is repeated, the byte, and whether that is the name of a resource.
-const RESOURCES: &str = "\
-0 97 no
-1 33 yes
-1000 126 yes
-1001 97 no
-3 32 no
-3 127 no
-3 255 no";
-
-#[test]
-fn a_resource_has_1_to_1000_printable_bytes(rt: HostRuntime) -> Result<(), Fail> {
-    for each in RESOURCES.lines() {
-        let mut row = Row::new(each);
-        let count = row.number().unwrap_or(0);
-        let byte = row.number().unwrap_or(0) as u8;
-        let mut text = Vec::new(rt.alloc());
-        for _ in 0..count {
-            text.push(byte)?;
-        }
-        assert!(rt; is_resource(&text) == (row.field() == "yes"), "{each}");
+    for line in RESOURCES.lines() {
+        assert!(rt; is_judged(alloc, Row::new(line))?, "{line}");
     }
     Ok(())
 }
@@ -314,6 +313,7 @@ fn text_again(alloc: Global, names: &Names, res: ResNo, line: &str) -> Result<Ve
 fn events_and_outcomes_have_their_texts(rt: HostRuntime) -> Result<(), Fail> {
     let alloc = rt.alloc();
     let (names, res) = one_name(alloc)?;
+    assert!(rt; names.text(res) == b"file:///a".as_slice());
     for each in LINES.lines() {
         assert!(rt;
             line_again(alloc, &names, res, each)?.as_slice() == each.as_bytes(),

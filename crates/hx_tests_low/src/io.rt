@@ -49,14 +49,6 @@ fn reads(alloc: Global, mut row: Row) -> Result<bool, Fail> {
     Ok(row.field() == end)
 }
 
-#[test]
-fn a_source_is_read_to_its_end_or_limit(rt: HostRuntime) -> Result<(), Fail> {
-    for line in READS.lines() {
-        assert!(rt; reads(rt.alloc(), Row::new(line))?, "{line}");
-    }
-    Ok(())
-}
-
 // The room of a sink, the call that fails, whether eleven bytes are written, and what the sink holds then.
 const WRITES: &str = "\
 11 none yes =hello%20world
@@ -75,7 +67,12 @@ fn writes(alloc: Global, mut row: Row) -> Result<bool, Fail> {
 }
 
 #[test]
-fn a_sink_takes_all_or_a_front(rt: HostRuntime) -> Result<(), Fail> {
+fn a_source_is_read_to_its_end_or_limit_and_a_sink_takes_all_or_a_front(
+    rt: HostRuntime,
+) -> Result<(), Fail> {
+    for line in READS.lines() {
+        assert!(rt; reads(rt.alloc(), Row::new(line))?, "{line}");
+    }
     for line in WRITES.lines() {
         assert!(rt; writes(rt.alloc(), Row::new(line))?, "{line}");
     }

@@ -1,4 +1,4 @@
-use crate::tables::Row;
+use crate::tables::{Row, repeated};
 use hx_events::{Backup, Bytes, SlotForm, is_resource};
 use hx_record::{RecordError, decode, encode};
 use std::alloc::Global;
@@ -26,14 +26,6 @@ fn is_written(alloc: Global, mut row: Row) -> Result<bool, Fail> {
     }
     let record = encode(alloc, &backup)?;
     row.has(alloc, &record)
-}
-
-#[test]
-fn a_backup_is_written(rt: HostRuntime) -> Result<(), Fail> {
-    for line in WRITTEN.lines() {
-        assert!(rt; is_written(rt.alloc(), Row::new(line))?, "{line}");
-    }
-    Ok(())
 }
 
 // The forms that a record is read in, the record, and what is read: the resource, the base and the content, or why none is.
@@ -89,25 +81,21 @@ fn is_read(alloc: Global, form: SlotForm, mut row: Row) -> Result<bool, Fail> {
     }
 }
 
+fn is_read_by_forms(alloc: Global, mut row: Row) -> Result<bool, Fail> {
+    let forms = row.field();
+    if forms != "two" && !is_read(alloc, SlotForm::One, row)? {
+        return Ok(false);
+    }
+    Ok(forms == "one" || is_read(alloc, SlotForm::Two, row)?)
+}
+
 #[test]
-fn a_record_is_read_or_refused_by_its_form(rt: HostRuntime) -> Result<(), Fail> {
+fn a_backup_is_written_and_read_or_refused_by_its_form(rt: HostRuntime) -> Result<(), Fail> {
+    for line in WRITTEN.lines() {
+        assert!(rt; is_written(rt.alloc(), Row::new(line))?, "{line}");
+    }
     for line in READ.lines() {
-        let mut row = Row::new(line);
-        let forms = row.field();
-        if forms != "two" {
-            assert!(rt;
-                is_read(rt.alloc(), SlotForm::One, row)?,
-                "form one: {line}"
-            );
-        }
-        let mut row = Row::new(line);
-        let _ = row.field();
-        if forms != "one" {
-            assert!(rt;
-                is_read(rt.alloc(), SlotForm::Two, row)?,
-                "form two: {line}"
-            );
-        }
+        assert!(rt; is_read_by_forms(rt.alloc(), Row::new(line))?, "{line}");
     }
     Ok(())
 }
@@ -129,10 +117,7 @@ two =r%20{"typeId":"n"}%0A 524289 =x = othertype"#;
 fn long(alloc: Global, row: &mut Row) -> Result<Vec<u8>, Fail> {
     let mut record = row.bytes(alloc)?;
     let count = row.number().unwrap_or(0);
-    let repeated = row.bytes(alloc)?;
-    for _ in 0..count {
-        record.extend_from_slice(&repeated)?;
-    }
+    record.extend_from_slice(&repeated(alloc, &row.bytes(alloc)?, count)?)?;
     record.extend_from_slice(&row.bytes(alloc)?)?;
     Ok(record)
 }
@@ -148,19 +133,22 @@ fn has_lengths(record: &[u8], backup: &Backup, mut row: Row) -> bool {
         && backup.base.is_none()
 }
 
+fn is_long(alloc: Global, mut row: Row) -> Result<bool, Fail> {
+    let form = match row.field() {
+        "one" => SlotForm::One,
+        _ => SlotForm::Two,
+    };
+    let record = long(alloc, &mut row)?;
+    match decode(alloc, &record, form) {
+        Ok(backup) => Ok(has_lengths(&record, &backup, row)),
+        Err(error) => Ok(row.field() == name(error)),
+    }
+}
+
 #[test]
 fn a_record_is_read_up_to_its_limits(rt: HostRuntime) -> Result<(), Fail> {
     for line in LONG.lines() {
-        let mut row = Row::new(line);
-        let form = match row.field() {
-            "one" => SlotForm::One,
-            _ => SlotForm::Two,
-        };
-        let record = long(rt.alloc(), &mut row)?;
-        match decode(rt.alloc(), &record, form) {
-            Ok(backup) => assert!(rt; has_lengths(&record, &backup, row), "{line}"),
-            Err(error) => assert!(rt; row.field() == name(error), "{line}"),
-        }
+        assert!(rt; is_long(rt.alloc(), Row::new(line))?, "{line}");
     }
     Ok(())
 }

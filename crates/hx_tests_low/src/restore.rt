@@ -51,13 +51,14 @@ fn file(alloc: Global, name: &str) -> Result<Bytes, Fail> {
     Err(Fail::new(format_args!("no file {name}")))
 }
 
-fn raw(alloc: Global, row: &mut Row) -> Result<RawPair, Fail> {
+fn raw(alloc: Global, mut row: Row) -> Result<RawPair, Fail> {
     let a = file(alloc, row.field())?;
     let b = file(alloc, row.field())?;
     Ok(RawPair { a, b })
 }
 
 fn is_found(alloc: Global, found: &PairFound, mut row: Row) -> Result<bool, Fail> {
+    let _ = (row.field(), row.field());
     let word = row.field();
     match found {
         PairFound::Empty => Ok(word == "empty"),
@@ -75,24 +76,34 @@ fn is_found(alloc: Global, found: &PairFound, mut row: Row) -> Result<bool, Fail
     }
 }
 
-// Whether the pairs of these lines, which are one vault, are found as they say.
-fn is_restored(alloc: Global, lines: &str) -> Result<bool, Fail> {
+fn raws(alloc: Global, lines: &str) -> Result<Vec<RawPair>, Fail> {
     let mut pairs = Vec::new(alloc);
     for line in lines.lines() {
-        pairs.push(raw(alloc, &mut Row::new(line))?)?;
+        pairs.push(raw(alloc, Row::new(line))?)?;
     }
+    Ok(pairs)
+}
+
+fn are_found(alloc: Global, found: &[PairFound], lines: &str) -> Result<bool, Fail> {
+    for (place, line) in lines.lines().enumerate() {
+        let Some(found) = found.get(place) else {
+            return Ok(false);
+        };
+        if !is_found(alloc, found, Row::new(line))? {
+            return Ok(false);
+        }
+    }
+    Ok(true)
+}
+
+// Whether the pairs of these lines, which are one vault, are found as they say.
+fn is_restored(alloc: Global, lines: &str) -> Result<bool, Fail> {
+    let pairs = raws(alloc, lines)?;
     if pairs.len() > 64 {
         return Ok(false);
     }
     let found = restored(alloc, &pairs)?;
-    for (line, found) in lines.lines().zip(&found) {
-        let mut row = Row::new(line);
-        let _ = (row.field(), row.field());
-        if !is_found(alloc, found, row)? {
-            return Ok(false);
-        }
-    }
-    Ok(found.len() == pairs.len())
+    Ok(found.len() == pairs.len() && are_found(alloc, &found, lines)?)
 }
 
 #[test]

@@ -60,6 +60,20 @@ impl<'a> Row<'a> {
         }
         Ok(bytes)
     }
+
+    /// Whether the next field of hexadecimal digits stands for these bytes.
+    pub fn has_hex(&mut self, alloc: Global, bytes: &[u8]) -> Result<bool, Fail> {
+        Ok(self.hex(alloc)?.as_slice() == bytes)
+    }
+}
+
+/// The bytes, repeated so often.
+pub fn repeated(alloc: Global, bytes: &[u8], count: u64) -> Result<Vec<u8>, Fail> {
+    let mut all = Vec::new(alloc);
+    for _ in 0..count {
+        all.extend_from_slice(bytes)?;
+    }
+    Ok(all)
 }
 
 fn hex_value(digit: u8) -> u8 {
