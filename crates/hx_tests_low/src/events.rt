@@ -7,6 +7,7 @@ use hx_events::{
     Actor, Bytes, Command, Event, Names, Outcome, ResNo, Stage, is_resource, line, outcome_text,
 };
 use std::alloc::Global;
+use std::process::Abort;
 use std::test::Fail;
 
 // A list of names with one resource.
@@ -18,6 +19,14 @@ fn one_name(alloc: Global) -> Result<(Names, ResNo), Fail>
         Ok(res) => Ok((names, res)),
         Err(_) => Err(Fail::from("no memory for a name")),
     }
+}
+
+fn is_added(alloc: Global, names: &mut Names, byte: u8) -> Result<bool, Fail> {
+    let name = Vec::from_slice(alloc, &[byte])?;
+    if names.len() != usize::from(byte) || names.find(&name).is_some() {
+        return Ok(false);
+    }
+    Ok(names.add(name).is_ok())
 }
 
 fn is_found(names: &Names, byte: u8) -> bool {
@@ -43,24 +52,29 @@ fn is_judged(alloc: Global, mut row: Row) -> Result<bool, Fail> {
     Ok(is_resource(&text) == (row.field() == "yes"))
 }
 
+fn fills(rt: &impl Abort, alloc: Global, names: &mut Names) -> Result<(), Fail> {
+    for byte in 0..=255u8 {
+        assert!(rt; is_added(alloc, names, byte)?, "{byte}");
+    }
+    Ok(())
+}
+
+fn finds_each(rt: &impl Abort, names: &Names) {
+    for byte in 0..=255u8 {
+        assert!(rt; is_found(names, byte), "{byte}");
+    }
+}
+
 #[test]
 fn a_list_takes_256_names_of_1_to_1000_printable_bytes_and_finds_each(
     rt: HostRuntime,
 ) -> Result<(), Fail> {
-    let alloc = rt.alloc();
-    let mut names = Names::new(alloc);
-    for byte in 0..=255u8 {
-        let name = Vec::from_slice(alloc, &[byte])?;
-        assert!(rt; names.len() == usize::from(byte) && names.find(&[byte]).is_none());
-        assert!(rt; names.add(name).is_ok());
-    }
-    assert!(rt; names.len() == 256);
-    for byte in 0..=255u8 {
-        assert!(rt; is_found(&names, byte), "{byte}");
-    }
     for line in RESOURCES.lines() {
-        assert!(rt; is_judged(alloc, Row::new(line))?, "{line}");
+        assert!(rt; is_judged(rt.alloc(), Row::new(line))?, "{line}");
     }
+    let mut names = Names::new(rt.alloc());
+    fills(&rt, rt.alloc(), &mut names)?;
+    finds_each(&rt, &names);
     Ok(())
 }
 
@@ -309,22 +323,27 @@ fn text_again(alloc: Global, names: &Names, res: ResNo, line: &str) -> Result<Ve
     }
 }
 
-#[test]
-fn events_and_outcomes_have_their_texts(rt: HostRuntime) -> Result<(), Fail> {
-    let alloc = rt.alloc();
-    let (names, res) = one_name(alloc)?;
-    assert!(rt; names.text(res) == b"file:///a".as_slice());
+fn have_texts(rt: &impl Abort, alloc: Global, names: &Names, res: ResNo) -> Result<(), Fail>
+    requires { res < length names.now }
+{
     for each in LINES.lines() {
         assert!(rt;
-            line_again(alloc, &names, res, each)?.as_slice() == each.as_bytes(),
+            line_again(alloc, names, res, each)?.as_slice() == each.as_bytes(),
             "{each}"
         );
     }
     for each in OUTCOMES.lines() {
         assert!(rt;
-            text_again(alloc, &names, res, each)?.as_slice() == each.as_bytes(),
+            text_again(alloc, names, res, each)?.as_slice() == each.as_bytes(),
             "{each}"
         );
     }
     Ok(())
+}
+
+#[test]
+fn events_and_outcomes_have_their_texts(rt: HostRuntime) -> Result<(), Fail> {
+    let (names, res) = one_name(rt.alloc())?;
+    assert!(rt; names.text(res) == b"file:///a".as_slice());
+    have_texts(&rt, rt.alloc(), &names, res)
 }

@@ -1,13 +1,30 @@
 use crate::tables::Row;
-use hx_disk::Disk;
+use hx_disk::{Disk, FileNo};
 use hx_events::{PairNo, Side, SlotForm};
 use hx_memdisk::{MemDisk, Plan};
 use hx_slots::{Shown, close_gate, frame, open_gate, put_block, shown, slot_file};
+use std::alloc::Global;
 use std::test::Fail;
 
 // What the calls leave in a slot file that has the stamp 1 and a record of 29 bytes.
 const FILE: &str =
     r#"=%01%00%00%00%00%00%00%00%01%FF%FF%FF%FF%00%00%00%1Dfile:///a%20{"typeId":""}%0Ahello"#;
+
+// Whether the file shows a body behind the last of the calls, and none before.
+fn are_made(disk: &mut MemDisk, file: FileNo, frame: &[u8]) -> Result<bool, Fail> {
+    if frame.len() != 45 {
+        return Ok(false);
+    }
+    disk.reserve(file, 1, 2)?;
+    close_gate(disk, file)?;
+    let first = shown(disk.bytes(file)).is_none();
+    disk.reserve(file, 46, 2)?;
+    put_block(disk, file, 1, frame)?;
+    let second = shown(disk.bytes(file)).is_none();
+    disk.reserve(file, 1, 2)?;
+    open_gate(disk, file)?;
+    Ok(first && second && shown(disk.bytes(file)).is_some())
+}
 
 #[test]
 fn the_calls_write_a_slot_file(rt: HostRuntime) -> Result<(), Fail> {
@@ -19,16 +36,8 @@ fn the_calls_write_a_slot_file(rt: HostRuntime) -> Result<(), Fail> {
     let mut disk = MemDisk::new(alloc, plan)?;
     let file = slot_file(PairNo::new(0), Side::B);
     let frame = frame(alloc, 1, b"file:///a {\"typeId\":\"\"}\nhello")?;
-    assert!(rt; frame.len() == 45);
-    disk.reserve(file, 1, 2)?;
-    close_gate(&mut disk, file)?;
-    assert!(rt; shown(disk.bytes(file)).is_none());
-    disk.reserve(file, 46, 2)?;
-    put_block(&mut disk, file, 1, &frame)?;
-    assert!(rt; shown(disk.bytes(file)).is_none());
-    disk.reserve(file, 1, 2)?;
-    open_gate(&mut disk, file)?;
-    assert!(rt; disk.bytes(file) == Row::new(FILE).bytes(alloc)?.as_slice());
+    assert!(rt; are_made(&mut disk, file, &frame)?);
+    assert!(rt; Row::new(FILE).has(alloc, disk.bytes(file))?);
     Ok(())
 }
 
@@ -83,25 +92,34 @@ fn place(mut row: Row) -> Option<Shown> {
     })
 }
 
+fn is_shown(alloc: Global, mut row: Row) -> Result<bool, Fail> {
+    let bytes = row.bytes(alloc)?;
+    Ok(shown(&bytes) == place(row))
+}
+
+fn is_shown_of_long(alloc: Global, mut row: Row) -> Result<bool, Fail> {
+    let mut bytes = row.bytes(alloc)?;
+    bytes.resize(534_400, b'x')?;
+    Ok(shown(&bytes) == place(row))
+}
+
+fn has_files(mut row: Row) -> bool {
+    let pair = PairNo::new((row.number().unwrap_or(0) % 64) as u32);
+    let a = u64::from(slot_file(pair, Side::A).number());
+    let b = u64::from(slot_file(pair, Side::B).number());
+    row.number() == Some(a) && row.number() == Some(b)
+}
+
 #[test]
 fn a_file_shows_its_body(rt: HostRuntime) -> Result<(), Fail> {
     for line in SHOWN.lines() {
-        let mut row = Row::new(line);
-        let bytes = row.bytes(rt.alloc())?;
-        assert!(rt; shown(&bytes) == place(row), "{line}");
+        assert!(rt; is_shown(rt.alloc(), Row::new(line))?, "{line}");
     }
     for line in LONG.lines() {
-        let mut row = Row::new(line);
-        let mut bytes = row.bytes(rt.alloc())?;
-        bytes.resize(534_400, b'x')?;
-        assert!(rt; shown(&bytes) == place(row), "{line}");
+        assert!(rt; is_shown_of_long(rt.alloc(), Row::new(line))?, "{line}");
     }
     for line in FILES.lines() {
-        let mut row = Row::new(line);
-        let pair = PairNo::new((row.number().unwrap_or(0) % 64) as u32);
-        let (a, b) = (slot_file(pair, Side::A), slot_file(pair, Side::B));
-        assert!(rt; row.number() == Some(u64::from(a.number())), "{line}");
-        assert!(rt; row.number() == Some(u64::from(b.number())), "{line}");
+        assert!(rt; has_files(Row::new(line)), "{line}");
     }
     Ok(())
 }

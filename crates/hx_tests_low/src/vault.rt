@@ -105,18 +105,29 @@ fn memory(alloc: Global, fails: Option<u64>, fuse: Option<u64>) -> Result<Untold
     Ok(Untold { disk })
 }
 
-fn plant(disk: &mut Untold, file: FileNo, bytes: &[u8]) -> Result<(), Fail> {
+// Writes the bytes of an escaped text into a file of a side of a pair.
+fn plant(
+    alloc: Global,
+    disk: &mut Untold,
+    pair: PairNo,
+    side: Side,
+    text: &str,
+) -> Result<(), Fail> {
+    let file = slot_file(pair, side);
+    let bytes = Row::new(text).bytes(alloc)?;
     disk.reserve(file, bytes.len() as u64, 2)?;
-    disk.write_at(file, 0, bytes)?;
+    disk.write_at(file, 0, &bytes)?;
     disk.sync(file)?;
     Ok(())
 }
 
-// Slot files with the stamp 1 and the content hello, with the stamp 2 and the content world behind a gate that the row says, and with
-// the stamp 7 and no record.
+// Slot files with the stamp 1 and the content hello, with the stamp 2 and the content world behind an open and behind a closed gate, and
+// with the stamp 7 and no record.
 const OLDER: &str = r#"=%01%00%00%00%00%00%00%00%01%00%00%00%1Dfile:///a%20{"typeId":""}%0Ahello"#;
 
 const NEWER: &str = r#"=%01%00%00%00%00%00%00%00%02%00%00%00%1Dfile:///a%20{"typeId":""}%0Aworld"#;
+
+const CLOSED: &str = r#"=%00%00%00%00%00%00%00%00%02%00%00%00%1Dfile:///a%20{"typeId":""}%0Aworld"#;
 
 const SPOILT: &str = "=%01%00%00%00%00%00%00%00%07%FF%FF%FF%FF%00%00%00%09no%20record";
 
@@ -137,12 +148,10 @@ fn open_vault(alloc: Global, disk: &mut Untold) -> Result<(Vault, Vec<PairFound>
 fn a_vault_is_read_and_its_pairs_are_adopted(rt: HostRuntime) -> Result<(), Fail> {
     let alloc = rt.alloc();
     let mut disk = memory(alloc, None, None)?;
-    let older = Row::new(OLDER).bytes(alloc)?;
-    let spoilt = Row::new(SPOILT).bytes(alloc)?;
-    plant(&mut disk, slot_file(PairNo::new(0), Side::B), &older)?;
-    plant(&mut disk, slot_file(PairNo::new(1), Side::A), b"\0")?;
-    plant(&mut disk, slot_file(PairNo::new(1), Side::B), &spoilt)?;
-    plant(&mut disk, slot_file(PairNo::new(2), Side::A), &older)?;
+    plant(alloc, &mut disk, PairNo::new(0), Side::B, OLDER)?;
+    plant(alloc, &mut disk, PairNo::new(1), Side::A, "=%00")?;
+    plant(alloc, &mut disk, PairNo::new(1), Side::B, SPOILT)?;
+    plant(alloc, &mut disk, PairNo::new(2), Side::A, OLDER)?;
     let (vault, found) = open_vault(alloc, &mut disk)?;
     assert!(rt; vault.stamp() == 7 && !vault.is_spent());
     assert!(rt; found.len() == 64);
@@ -173,28 +182,24 @@ const BEFORE: u64 = 262;
 // A stage, the gate of the newer side before it, the call that fails, counted from the first of the stage, what a restart brings back before
 // the stage, and after it and a crash: one of two.
 const STAGES: &str = "\
-discard 1 0 newer nothing nothing
-discard 1 1 newer newer newer
-discard 1 2 newer newer newer
-discard 1 3 newer newer nothing
-discard 1 4 newer newer nothing
-open 0 0 older newer newer
-open 0 1 older newer older
-open 0 2 older newer older
-prepare 1 0 newer newer newer
-prepare 1 1 newer newer newer
-prepare 1 2 newer newer newer";
+discard open 0 newer nothing nothing
+discard open 1 newer newer newer
+discard open 2 newer newer newer
+discard open 3 newer newer nothing
+discard open 4 newer newer nothing
+open closed 0 older newer newer
+open closed 1 older newer older
+open closed 2 older newer older
+prepare open 0 newer newer newer
+prepare open 1 newer newer newer
+prepare open 2 newer newer newer";
 
 // A disk on which side A of the first pair shows the older backup, and side B has the newer one behind this gate.
-fn written(alloc: Global, gate: u64, fails: Option<u64>) -> Result<Untold, Fail> {
+fn written(alloc: Global, gate: &str, fails: Option<u64>) -> Result<Untold, Fail> {
+    let newer = if gate == "open" { NEWER } else { CLOSED };
     let mut disk = memory(alloc, fails, None)?;
-    let older = Row::new(OLDER).bytes(alloc)?;
-    let mut newer = Row::new(NEWER).bytes(alloc)?;
-    if let Some(first) = newer.first_mut() {
-        *first = gate as u8;
-    }
-    plant(&mut disk, slot_file(PairNo::new(0), Side::A), &older)?;
-    plant(&mut disk, slot_file(PairNo::new(0), Side::B), &newer)?;
+    plant(alloc, &mut disk, PairNo::new(0), Side::A, OLDER)?;
+    plant(alloc, &mut disk, PairNo::new(0), Side::B, newer)?;
     Ok(disk)
 }
 
@@ -253,7 +258,7 @@ fn stage(vault: &mut Vault, disk: &mut Untold, stage: &str) -> Result<bool, Fail
 fn leaves(alloc: Global, line: &str, pick: u64) -> Result<bool, Fail> {
     let mut row = Row::new(line);
     let name = row.field();
-    let gate = row.number().unwrap_or(0);
+    let gate = row.field();
     let fails = match row.number() {
         Some(call) if 0 < call && call < 10 => Some(BEFORE + call),
         _ => None,
@@ -281,6 +286,16 @@ fn a_stage_that_fails_at_a_call_leaves_one_of_the_backups_before_or_after(
     Ok(())
 }
 
+// The block that follows the gate, for this content.
+fn block(alloc: Global, stamp: u64, content: &[u8]) -> Result<Vec<u8>, Fail> {
+    let mut body = Vec::from_slice(alloc, b"file:///a {\"typeId\":\"\"}\n")?;
+    body.extend_from_slice(content)?;
+    if body.len() > 200 {
+        return Err(Fail::from("a long content"));
+    }
+    Ok(frame(alloc, stamp, &body)?)
+}
+
 // Whether a backup of this content was completed.
 fn back_up(
     alloc: Global,
@@ -292,18 +307,16 @@ fn back_up(
     ensures { length vault.new.pairs ≡ 64 }
 {
     let pair = PairNo::new(0);
-    if vault.is_spent() || vault.use_of(pair) != PairUse::Taken || content.len() > 100 {
+    if vault.is_spent() || vault.use_of(pair) != PairUse::Taken {
         return Ok(false);
     }
     vault.reserve(disk, pair, false, 1)?;
     let Ok(()) = vault.prepare(disk, pair) else {
         return Ok(false);
     };
-    let mut body = Vec::from_slice(alloc, b"file:///a {\"typeId\":\"\"}\n")?;
-    body.extend_from_slice(content)?;
-    let frame = frame(alloc, vault.stamp(), &body)?;
+    let frame = block(alloc, vault.stamp(), content)?;
     let end = 1 + frame.len() as u64;
-    if end > 200 {
+    if end > 300 {
         return Ok(false);
     }
     vault.reserve(disk, pair, false, end)?;
