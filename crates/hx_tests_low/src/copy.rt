@@ -1,8 +1,8 @@
+use crate::tables::{Row, repeated};
 use hx_copy::{EditError, WorkingCopy};
 use hx_etag::Stat;
 use hx_events::{Bytes, CONTENT_MAX};
 use std::alloc::{AllocError, Global};
-use std::process::Abort;
 use std::test::Fail;
 
 const STAT: Stat = Stat {
@@ -10,169 +10,163 @@ const STAT: Stat = Stat {
     size: 1,
 };
 
-#[derive(Clone, Copy)]
-enum Call {
-    Edit(u64, &'static [u8]),
-    Undo,
-    Redo,
-    Saved(u64),
-    Reverted(&'static [u8]),
+// Calls on a copy that was created empty, and behind each the version, the alternative id and whether the copy is dirty. A line `new`
+// begins anew, and a line `full` with a content that is as long as may be. The other lines say what else is found.
+const CALLS: &str = "\
+new
+edit 0 0 =a 2 2 dirty
+edit 1 0 =b 3 3 dirty
+undo 4 2 dirty
+undo 5 1 clean
+trail no yes
+new
+edit 0 0 =a 2 2 dirty
+edit 1 0 =b 3 3 dirty
+undo 4 2 dirty
+undo 5 1 clean
+redo 6 2 dirty
+edit 1 0 =c 7 7 dirty
+trail yes no
+content =ac
+new
+edit 0 0 =hello 2 2 dirty
+undo 3 1 clean
+new
+edit 0 0 =a 2 2 dirty
+saved 2 2 2 clean
+edit 1 0 =b 3 3 dirty
+undo 4 2 clean
+new
+edit 0 0 =a 2 2 dirty
+undo 3 1 clean
+saved 2 3 1 clean
+new
+edit 0 0 =a 2 2 dirty
+undo 3 1 clean
+redo 4 2 dirty
+saved 2 4 2 dirty
+saved 4 4 2 clean
+edit 0 0 =b 5 5 dirty
+reverted =c 6 6 clean
+base 2000 1
+content =c
+full
+edit 524288 0 = 2 2 dirty
+refused 0 0 =y toolarge
+edit 0 1 =y 3 3 dirty
+refused 1 18446744073709551615 = outofcontent
+refused 524288 1 = outofcontent
+front =yx";
+
+fn undo(copy: &mut WorkingCopy) -> Result<(), AllocError> {
+    if copy.version() < u64::MAX && copy.can_undo() {
+        copy.reserve_undo()?;
+        copy.undo();
+    }
+    Ok(())
 }
 
-fn undo(rt: &impl Abort, copy: &mut WorkingCopy) -> Result<u64, AllocError> {
-    assert!(rt; copy.version() < u64::MAX);
-    assert!(rt; copy.can_undo());
-    copy.reserve_undo()?;
-    Ok(copy.undo())
+fn redo(copy: &mut WorkingCopy) -> Result<(), AllocError> {
+    if copy.version() < u64::MAX && copy.can_redo() {
+        copy.reserve_redo()?;
+        copy.redo();
+    }
+    Ok(())
 }
 
-fn redo(rt: &impl Abort, copy: &mut WorkingCopy) -> Result<u64, AllocError> {
-    assert!(rt; copy.version() < u64::MAX);
-    assert!(rt; copy.can_redo());
-    copy.reserve_redo()?;
-    Ok(copy.redo())
-}
-
-fn edit(rt: &impl Abort, copy: &mut WorkingCopy, off: u64, text: &[u8]) -> Result<u64, Fail> {
-    assert!(rt; copy.version() < u64::MAX);
-    copy.reserve(text.len())?;
-    Ok(copy.edit(off, 0, text)?)
-}
-
-fn revert(
-    rt: &impl Abort,
+fn edit(
     alloc: Global,
     copy: &mut WorkingCopy,
-    text: &[u8],
-) -> Result<u64, AllocError> {
-    assert!(rt; copy.version() < u64::MAX);
-    Ok(copy.reverted(Bytes::new(text.to_vec(alloc)?), STAT))
+    row: &mut Row,
+) -> Result<Result<u64, EditError>, Fail> {
+    let off = row.number().unwrap_or(0);
+    let del = row.number().unwrap_or(0);
+    let text = row.bytes(alloc)?;
+    if copy.version() == u64::MAX {
+        return Err(Fail::from("no version is left"));
+    }
+    copy.reserve(text.len())?;
+    Ok(copy.edit(off, del, &text))
 }
 
-fn made(rt: &impl Abort, alloc: Global, copy: &mut WorkingCopy, call: Call) -> Result<u64, Fail> {
-    match call {
-        Call::Edit(off, text) => edit(rt, copy, off, text),
-        Call::Undo => Ok(undo(rt, copy)?),
-        Call::Redo => Ok(redo(rt, copy)?),
-        Call::Saved(version) => {
-            copy.saved(version, Some(STAT));
-            Ok(copy.version())
+fn is_refused(alloc: Global, copy: &mut WorkingCopy, mut row: Row) -> Result<bool, Fail> {
+    match edit(alloc, copy, &mut row)? {
+        Err(EditError::TooLarge) => Ok(row.field() == "toolarge"),
+        Err(EditError::OutOfContent) => Ok(row.field() == "outofcontent"),
+        _ => Ok(false),
+    }
+}
+
+fn revert(copy: &mut WorkingCopy, text: Vec<u8>) {
+    if copy.version() < u64::MAX {
+        copy.reverted(Bytes::new(text), STAT);
+    }
+}
+
+fn made(alloc: Global, copy: &mut WorkingCopy, word: &str, row: &mut Row) -> Result<(), Fail> {
+    match word {
+        "edit" => {
+            let _ = edit(alloc, copy, row)?;
         }
-        Call::Reverted(text) => Ok(revert(rt, alloc, copy, text)?),
+        "undo" => undo(copy)?,
+        "redo" => redo(copy)?,
+        "saved" => copy.saved(row.number().unwrap_or(0), Some(STAT)),
+        _ => revert(copy, row.bytes(alloc)?),
     }
-}
-
-// Makes the calls on a created copy, and compares after each the version, the alternative id and whether the copy is dirty.
-fn session(
-    rt: &impl Abort,
-    alloc: Global,
-    calls: &[(Call, u64, u64, bool)],
-) -> Result<WorkingCopy, Fail> {
-    let mut copy = WorkingCopy::new(alloc, Bytes::new(Vec::new(alloc)), None, true, 1);
-    for (each, version, alternative, dirty) in calls {
-        assert_eq!(rt; made(rt, alloc, &mut copy, *each)?, *version);
-        assert_eq!(rt; copy.alternative(), *alternative);
-        assert_eq!(rt; copy.is_dirty(), *dirty);
-    }
-    Ok(copy)
-}
-
-#[test]
-fn undo_and_redo_walk_on_a_trail(rt: HostRuntime) -> Result<(), Fail> {
-    let copy = session(
-        &rt,
-        rt.alloc(),
-        &[
-            (Call::Edit(0, b"a"), 2, 2, true),
-            (Call::Edit(1, b"b"), 3, 3, true),
-            (Call::Undo, 4, 2, true),
-            (Call::Undo, 5, 1, false),
-        ],
-    )?;
-    assert!(rt; !copy.can_undo());
-    let copy = session(
-        &rt,
-        rt.alloc(),
-        &[
-            (Call::Edit(0, b"a"), 2, 2, true),
-            (Call::Edit(1, b"b"), 3, 3, true),
-            (Call::Undo, 4, 2, true),
-            (Call::Undo, 5, 1, false),
-            (Call::Redo, 6, 2, true),
-            (Call::Edit(1, b"c"), 7, 7, true),
-        ],
-    )?;
-    assert!(rt; !copy.can_redo());
-    assert_eq!(rt; copy.content(), b"ac".as_slice());
     Ok(())
 }
 
-#[test]
-fn the_saved_state_is_clean(rt: HostRuntime) -> Result<(), Fail> {
-    // an undo to the created state, and one to the saved state
-    session(
-        &rt,
-        rt.alloc(),
-        &[
-            (Call::Edit(0, b"hello"), 2, 2, true),
-            (Call::Undo, 3, 1, false),
-        ],
-    )?;
-    session(
-        &rt,
-        rt.alloc(),
-        &[
-            (Call::Edit(0, b"a"), 2, 2, true),
-            (Call::Saved(2), 2, 2, false),
-            (Call::Edit(1, b"b"), 3, 3, true),
-            (Call::Undo, 4, 2, false),
-        ],
-    )?;
-    Ok(())
+fn is_left(copy: &WorkingCopy, row: &mut Row) -> bool {
+    row.number() == Some(copy.version())
+        && row.number() == Some(copy.alternative())
+        && copy.is_dirty() == (row.field() == "dirty")
 }
 
-#[test]
-fn a_save_of_an_older_version_leaves_the_mark(rt: HostRuntime) -> Result<(), Fail> {
-    session(
-        &rt,
-        rt.alloc(),
-        &[
-            (Call::Edit(0, b"a"), 2, 2, true),
-            (Call::Undo, 3, 1, false),
-            (Call::Saved(2), 3, 1, false),
-        ],
-    )?;
-    let copy = session(
-        &rt,
-        rt.alloc(),
-        &[
-            (Call::Edit(0, b"a"), 2, 2, true),
-            (Call::Undo, 3, 1, false),
-            (Call::Redo, 4, 2, true),
-            (Call::Saved(2), 4, 2, true),
-            (Call::Saved(4), 4, 2, false),
-            (Call::Edit(0, b"b"), 5, 5, true),
-            (Call::Reverted(b"c"), 6, 6, false),
-        ],
-    )?;
-    assert_eq!(rt; copy.base(), Some(STAT));
-    Ok(())
+fn has_trail(copy: &WorkingCopy, mut row: Row) -> bool {
+    let back = row.field() == "yes";
+    let ahead = row.field() == "yes";
+    copy.can_undo() == back && copy.can_redo() == ahead
 }
 
-#[test]
-fn edits_within_the_limit(rt: HostRuntime) -> Result<(), Fail> {
-    let full = vec![in rt.alloc(); b'x'; CONTENT_MAX as usize]?;
-    let mut copy = WorkingCopy::new(rt.alloc(), Bytes::new(full), None, true, 1);
-    for (off, del, text, answer) in [
-        (CONTENT_MAX, 0, b"".as_slice(), Ok(2)),
-        (0, 0, b"y".as_slice(), Err(EditError::TooLarge)),
-        (0, 1, b"y".as_slice(), Ok(3)),
-        (1, u64::MAX, b"".as_slice(), Err(EditError::OutOfContent)),
-        (CONTENT_MAX, 1, b"".as_slice(), Err(EditError::OutOfContent)),
-    ] {
-        assert!(rt; copy.version() < u64::MAX);
-        assert_eq!(rt; copy.edit(off, del, text), answer, "{off} {del}");
+fn has_front(alloc: Global, copy: &WorkingCopy, mut row: Row) -> Result<bool, Fail> {
+    Ok(copy.content().starts_with(&row.bytes(alloc)?))
+}
+
+// Whether a line comes out as it says.
+fn comes_out(alloc: Global, copy: &mut WorkingCopy, line: &str) -> Result<bool, Fail> {
+    let mut row = Row::new(line);
+    let word = row.field();
+    match word {
+        "content" => row.has(alloc, copy.content()),
+        "front" => has_front(alloc, copy, row),
+        "base" => Ok(copy.base() == row.stat()),
+        "trail" => Ok(has_trail(copy, row)),
+        "refused" => is_refused(alloc, copy, row),
+        _ => {
+            made(alloc, copy, word, &mut row)?;
+            Ok(is_left(copy, &mut row))
+        }
     }
-    assert!(rt; copy.content().starts_with(b"yx"));
+}
+
+fn created(alloc: Global, content: Vec<u8>) -> WorkingCopy {
+    WorkingCopy::new(alloc, Bytes::new(content), None, true, 1)
+}
+
+#[test]
+fn the_saved_state_is_clean_on_the_trail_and_edits_stay_within_the_limit(
+    rt: HostRuntime,
+) -> Result<(), Fail> {
+    let alloc = rt.alloc();
+    let mut copy = created(alloc, Vec::new(alloc));
+    for line in CALLS.lines() {
+        if line == "new" {
+            copy = created(alloc, Vec::new(alloc));
+        } else if line == "full" {
+            copy = created(alloc, repeated(alloc, b"x", CONTENT_MAX)?);
+        } else {
+            assert!(rt; comes_out(alloc, &mut copy, line)?, "{line}");
+        }
+    }
     Ok(())
 }

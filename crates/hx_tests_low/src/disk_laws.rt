@@ -1,5 +1,6 @@
-use hx_disk_laws::*;
 use hx_disk::{Disk, FileNo};
+use hx_disk_laws::{crash, image_laws, left_laws, run_laws, shut, shut_both};
+use hx_ghost::GhostList;
 use hx_memdisk::{MemDisk, Plan};
 use std::test::Fail;
 
@@ -18,7 +19,11 @@ fn two_files_are_shut_and_a_crash_keeps_them(rt: HostRuntime) -> Result<(), Fail
     disk.reserve(FileNo::new(5), 1, 2)?;
     assert!(rt; shut(&mut disk, FileNo::new(5)).is_ok());
     crash(&mut disk, 0)?;
-    assert_eq!(rt; disk.bytes(FileNo::new(4)), b"\0".as_slice());
-    assert_eq!(rt; disk.bytes(FileNo::new(5)), b"\0".as_slice());
+    assert!(rt; disk.bytes(FileNo::new(4)) == b"\0".as_slice());
+    assert!(rt; disk.bytes(FileNo::new(5)) == b"\0".as_slice());
+
+    let mut bytes = GhostList::<u8>::new();
+    bytes.extend(&b"abc".as_slice());
+    assert!(rt; size_of_val(&bytes) == 0);
     Ok(())
 }

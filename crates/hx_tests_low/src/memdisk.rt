@@ -1,17 +1,149 @@
-use hx_memdisk::*;
-use hx_disk::{Disk, DiskFailed, FileNo};
-use hx_etag::Stat;
+use crate::tables::Row;
+use hx_disk::{Disk, FileNo};
+use hx_memdisk::{MemDisk, Plan};
 use std::alloc::{AllocError, Global};
 use std::test::Fail;
 
+// A line `disk` begins a new disk, with the calls that fail and the call behind which every other does. A line of a call has its
+// file, and at the end whether the call succeeds. The others say what is found then.
+const CALLS: &str = "\
+disk 2,none none
+write 0 0 =abcd ok
+sync 0 failed
+crash 0
+holds 0 =
+disk 2,none none
+write 0 0 =abcd ok
+sync 0 failed
+crash 1
+holds 0 =abcd
+disk 2,none none
+write 0 0 =abcd ok
+sync 0 failed
+crash 2
+holds 0 =a%01c%01
+disk 1,none none
+write 0 0 =abcd failed
+holds 0 =ab
+disk 1,2 none
+write 1 0 =x failed
+write 2 0 =xy failed
+stat 1 none
+stat 2 0 1
+write 1 0 = ok
+cut 3 0 ok
+mtime 4 9 ok
+stat 1 1000 0
+stat 3 2000 0
+stat 4 9 0
+disk 1,2 4
+sync 1 failed
+sync 1 failed
+write 1 0 =abc ok
+write 1 3 =d ok
+sync 1 failed
+crash 0
+moment 6
+stat 1 2000 0
+stat 2 none
+write 2 0 =x ok
+sync 2 ok
+sync 2 ok
+stat 2 3000 1
+crash 0
+holds 2 =x
+faults 3
+disk none none
+unreserved 0
+write 0 0 =abc ok
+disk none none
+write 200 0 =abcd ok
+sync 200 ok
+write 200 2 =XYZ ok
+crash 0
+holds 200 =abcd
+disk none none
+write 200 0 =abcdef ok
+sync 200 ok
+cut 200 2 ok
+write 200 1 =Q ok
+crash 0
+holds 200 =abcdef
+disk none none
+write 200 0 =abcd ok
+sync 200 ok
+write 200 2 =XYZ ok
+crash 1
+holds 200 =abXYZ
+disk none none
+write 200 0 =abcdef ok
+sync 200 ok
+cut 200 2 ok
+write 200 1 =Q ok
+crash 1
+holds 200 =aQ
+disk none none
+write 200 0 =abcd ok
+sync 200 ok
+write 200 2 =XYZ ok
+crash 2
+holds 200 =abXdZ
+disk none none
+write 200 0 =abcdef ok
+sync 200 ok
+cut 200 2 ok
+write 200 1 =Q ok
+crash 2
+holds 200 =ab
+disk none none
+write 200 0 =abcd ok
+sync 200 ok
+write 200 2 =XYZ ok
+crash 3
+holds 200 =abcY%01
+disk none none
+write 200 0 =abcdef ok
+sync 200 ok
+cut 200 2 ok
+write 200 1 =Q ok
+crash 3
+holds 200 =aQ
+disk none none
+write 200 0 =abcd ok
+sync 200 ok
+write 200 2 =XYZ ok
+crash 18446744073709551615
+holds 200 =abcY%01
+disk none none
+write 200 0 =abcdef ok
+sync 200 ok
+cut 200 2 ok
+write 200 1 =Q ok
+crash 18446744073709551615
+holds 200 =aQ";
+
 fn disk(alloc: Global, fails: &[u64], fuse: Option<u64>) -> Result<MemDisk, AllocError> {
-    MemDisk::new(
-        alloc,
-        Plan {
-            fails: fails.to_vec(alloc)?,
-            fuse,
-        },
-    )
+    let fails = fails.to_vec(alloc)?;
+    MemDisk::new(alloc, Plan { fails, fuse })
+}
+
+// The disk of a line `disk`.
+fn planned(alloc: Global, mut row: Row) -> Result<MemDisk, Fail> {
+    let fails = row.field();
+    let fuse = row.number();
+    let (first, second) = fails.split_once(",").unwrap_or((fails, ""));
+    let mut calls = Vec::new(alloc);
+    if let Some(call) = Row::new(first).number() {
+        calls.push(call)?;
+    }
+    if let Some(call) = Row::new(second).number() {
+        calls.push(call)?;
+    }
+    Ok(disk(alloc, &calls, fuse)?)
+}
+
+fn file(row: &mut Row) -> FileNo {
+    FileNo::new((row.number().unwrap_or(0) % 384) as u32)
 }
 
 // Each of these makes its own room. They answer whether the call succeeded.
@@ -45,203 +177,117 @@ fn read(disk: &mut MemDisk, file: FileNo, into: &mut [u8]) -> bool {
     disk.bytes(file).len() >= into.len() && disk.read(file, 0, into).is_ok()
 }
 
-#[test]
-fn a_sync_that_fails_leaves_the_write_open(rt: HostRuntime) -> Result<(), Fail> {
-    for (pick, left) in [
-        (0, b"".as_slice()),
-        (1, b"abcd".as_slice()),
-        (2, [0x61, 1, 0x63, 1].as_slice()),
-    ] {
-        let mut disk = disk(rt.alloc(), &[2], None)?;
-        let file = FileNo::new(0);
-        assert!(rt; write(&mut disk, file, 0, b"abcd")?);
-        assert!(rt; !sync(&mut disk, file)?);
-        disk.crash(pick)?;
-        assert_eq!(rt; disk.bytes(file), left, "after the pick {pick}");
+// Whether a line's call succeeds.
+fn succeeds(alloc: Global, disk: &mut MemDisk, word: &str, row: &mut Row) -> Result<bool, Fail> {
+    let file = file(row);
+    match word {
+        "write" => {
+            let at = row.number().unwrap_or(0);
+            let bytes = row.bytes(alloc)?;
+            Ok(write(disk, file, at, &bytes)?)
+        }
+        "cut" => Ok(cut(disk, file, row.number().unwrap_or(0))?),
+        "mtime" => Ok(set_mtime(disk, file, row.number().unwrap_or(0))?),
+        _ => Ok(sync(disk, file)?),
     }
-    Ok(())
+}
+
+fn has_stat(disk: &mut MemDisk, mut row: Row) -> bool {
+    let file = file(&mut row);
+    disk.stat(file) == Ok(row.stat())
+}
+
+fn holds(alloc: Global, disk: &MemDisk, mut row: Row) -> Result<bool, Fail> {
+    let file = file(&mut row);
+    row.has(alloc, disk.bytes(file))
+}
+
+// Whether a line comes out as it says.
+fn comes_out(alloc: Global, disk: &mut MemDisk, line: &str) -> Result<bool, Fail> {
+    let mut row = Row::new(line);
+    let word = row.field();
+    match word {
+        "stat" => Ok(has_stat(disk, row)),
+        "holds" => holds(alloc, disk, row),
+        "moment" => Ok(row.number() == Some(disk.moment())),
+        "faults" => Ok(row.number() == Some(disk.faults())),
+        "unreserved" => Ok(disk.reserve(file(&mut row), u64::MAX, 2).is_err()),
+        "crash" => {
+            disk.crash(row.number().unwrap_or(0))?;
+            Ok(true)
+        }
+        _ => {
+            let ok = succeeds(alloc, disk, word, &mut row)?;
+            Ok(ok == (row.field() == "ok"))
+        }
+    }
 }
 
 #[test]
-fn a_write_that_fails_has_written_its_first_half(rt: HostRuntime) -> Result<(), Fail> {
-    let mut disk = disk(rt.alloc(), &[1], None)?;
-    let file = FileNo::new(0);
-    assert!(rt; !write(&mut disk, file, 0, b"abcd")?);
-    assert_eq!(rt; disk.bytes(file), b"ab".as_slice());
-    Ok(())
-}
-
-// A file with these stable bytes, then cut to a length and written into, after a crash with this pick.
-fn left_of(
-    alloc: Global,
-    stable: &[u8],
-    kept: u64,
-    at: u64,
-    new: &[u8],
-    pick: u64,
-) -> Result<MemDisk, AllocError> {
+fn calls_fail_as_planned_and_a_crash_mixes_what_was_read_and_what_is_stable(
+    rt: HostRuntime,
+) -> Result<(), Fail> {
+    let alloc = rt.alloc();
     let mut disk = disk(alloc, &[], None)?;
-    let file = FileNo::new(200);
-    let _ = write(&mut disk, file, 0, stable)? && sync(&mut disk, file)?;
-    let _ = cut(&mut disk, file, kept)? && write(&mut disk, file, at, new)?;
-    disk.crash(pick)?;
-    Ok(disk)
-}
-
-#[test]
-fn picks_mix_what_is_read_and_what_is_stable(rt: HostRuntime) -> Result<(), Fail> {
-    let file = FileNo::new(200);
-    for (pick, longer, shorter) in [
-        (0, b"abcd".as_slice(), b"abcdef".as_slice()),
-        (1, b"abXYZ".as_slice(), b"aQ".as_slice()),
-        (2, b"abXdZ".as_slice(), b"ab".as_slice()),
-        (3, b"abcY\x01".as_slice(), b"aQ".as_slice()),
-        // The sum of the place and the pick doesn't wrap.
-        (u64::MAX, b"abcY\x01".as_slice(), b"aQ".as_slice()),
-    ] {
-        let disk = left_of(rt.alloc(), b"abcd", 4, 2, b"XYZ", pick)?;
-        assert_eq!(rt; disk.bytes(file), longer, "after the pick {pick}");
-        let disk = left_of(rt.alloc(), b"abcdef", 2, 1, b"Q", pick)?;
-        assert_eq!(rt; disk.bytes(file), shorter, "after the pick {pick}");
-    }
-    Ok(())
-}
-
-#[derive(Clone, Copy)]
-enum Step {
-    Stat,
-    Read,
-    Write,
-    Cut,
-    Sync,
-    SetMtime,
-}
-
-fn step_on(disk: &mut MemDisk, file: FileNo, step: Step) -> Result<bool, AllocError> {
-    match step {
-        Step::Stat => Ok(disk.stat(file).is_ok()),
-        Step::Read => Ok(read(disk, file, &mut [0; 6])),
-        Step::Write => write(disk, file, 1, b"XYZ"),
-        Step::Cut => cut(disk, file, 2),
-        Step::Sync => sync(disk, file),
-        Step::SetMtime => set_mtime(disk, file, 7),
-    }
-}
-
-#[test]
-fn each_call_fails_as_planned(rt: HostRuntime) -> Result<(), Fail> {
-    for (step, bytes, moment) in [
-        (Step::Stat, b"abcdef".as_slice(), 2),
-        (Step::Read, b"abcdef".as_slice(), 2),
-        (Step::Write, b"aXcdef".as_slice(), 3),
-        (Step::Cut, b"abcdef".as_slice(), 3),
-        (Step::Sync, b"abcdef".as_slice(), 3),
-        (Step::SetMtime, b"abcdef".as_slice(), 3),
-    ] {
-        // The third call fails alone, or every call behind the second.
-        for (fails, fuse, next) in [
-            ([3].as_slice(), None, true),
-            ([].as_slice(), Some(2), false),
-        ] {
-            let mut disk = disk(rt.alloc(), fails, fuse)?;
-            let file = FileNo::new(383);
-            assert!(rt; write(&mut disk, file, 0, b"abcdef")? && sync(&mut disk, file)?);
-            assert!(rt; !step_on(&mut disk, file, step)?);
-            assert_eq!(rt; disk.bytes(file), bytes, "at moment {moment}");
-            assert_eq!(rt; disk.moment(), moment);
-            assert_eq!(rt; disk.faults(), 1);
-            let stat = if next {
-                Ok(Some(Stat {
-                    mtime: 1000,
-                    size: 6,
-                }))
-            } else {
-                Err(DiskFailed)
-            };
-            assert!(rt; disk.stat(file) == stat, "at moment {moment}");
+    for line in CALLS.lines() {
+        if let Some(plan) = line.strip_prefix("disk ") {
+            disk = planned(alloc, Row::new(plan))?;
+        } else {
+            assert!(rt; comes_out(alloc, &mut disk, line)?, "{line}");
         }
     }
     Ok(())
 }
 
-#[test]
-fn writes_are_counted_and_files_begin_to_exist(rt: HostRuntime) -> Result<(), Fail> {
-    let mut disk = disk(rt.alloc(), &[1, 2], None)?;
-    let one = FileNo::new(1);
-    let two = FileNo::new(2);
-    let three = FileNo::new(3);
-    let four = FileNo::new(4);
+// A call, what its file holds after it has failed, and the moment then.
+const FAILURES: &str = "\
+stat =abcdef 2
+read =abcdef 2
+write =aXcdef 3
+cut =abcdef 3
+sync =abcdef 3
+mtime =abcdef 3";
 
-    // A failed write makes a file exist only where it has written a byte, and has no part in modification times.
-    assert!(rt; !write(&mut disk, one, 0, b"x")? && !write(&mut disk, two, 0, b"xy")?);
-    assert!(rt; disk.stat(one) == Ok(None));
-    assert!(rt; disk.stat(two) == Ok(Some(Stat { mtime: 0, size: 1 })));
-
-    // A call that succeeds makes it exist, also where it brings no bytes. All files are counted together.
-    assert!(rt;
-        write(&mut disk, one, 0, b"")?
-            && cut(&mut disk, three, 0)?
-            && set_mtime(&mut disk, four, 9)?
-    );
-    assert!(rt;
-        disk.stat(one)
-            == Ok(Some(Stat {
-                mtime: 1000,
-                size: 0
-            }))
-    );
-    assert!(rt;
-        disk.stat(three)
-            == Ok(Some(Stat {
-                mtime: 2000,
-                size: 0
-            }))
-    );
-    assert!(rt; disk.stat(four) == Ok(Some(Stat { mtime: 9, size: 0 })));
-    Ok(())
+fn call(disk: &mut MemDisk, file: FileNo, word: &str) -> Result<bool, AllocError> {
+    match word {
+        "stat" => Ok(disk.stat(file).is_ok()),
+        "read" => Ok(read(disk, file, &mut [0; 6])),
+        "write" => write(disk, file, 1, b"XYZ"),
+        "cut" => cut(disk, file, 2),
+        "sync" => sync(disk, file),
+        _ => set_mtime(disk, file, 7),
+    }
 }
 
-#[test]
-fn a_crash_forgets_the_plan_and_keeps_the_stats(rt: HostRuntime) -> Result<(), Fail> {
-    let mut disk = disk(rt.alloc(), &[1, 2], Some(4))?;
-    let one = FileNo::new(1);
-    let two = FileNo::new(2);
-    assert!(rt; !sync(&mut disk, one)? && !sync(&mut disk, one)?);
-    assert!(rt;
-        write(&mut disk, one, 0, b"abc")?
-            && write(&mut disk, one, 3, b"d")?
-            && !sync(&mut disk, one)?
-    );
-    disk.crash(0)?;
-    assert_eq!(rt; disk.moment(), 6);
-    assert!(rt;
-        disk.stat(one)
-            == Ok(Some(Stat {
-                mtime: 2000,
-                size: 0
-            }))
-    );
-    assert!(rt; disk.stat(two) == Ok(None));
-    assert!(rt; write(&mut disk, two, 0, b"x")? && sync(&mut disk, two)? && sync(&mut disk, two)?);
-    assert!(rt;
-        disk.stat(two)
-            == Ok(Some(Stat {
-                mtime: 3000,
-                size: 1
-            }))
-    );
-
-    // What the first crash left is what the second begins with.
-    disk.crash(0)?;
-    assert_eq!(rt; disk.bytes(two), b"x".as_slice());
-    assert_eq!(rt; disk.faults(), 3);
-    Ok(())
+// Whether the third call of this disk fails as the line says, where the first two write and sync, and whether the next succeeds.
+fn fails_third(alloc: Global, mut disk: MemDisk, mut row: Row, next: bool) -> Result<bool, Fail> {
+    let file = FileNo::new(383);
+    if !write(&mut disk, file, 0, b"abcdef")? || !sync(&mut disk, file)? {
+        return Ok(false);
+    }
+    if call(&mut disk, file, row.field())? || disk.faults() != 1 {
+        return Ok(false);
+    }
+    if !row.has(alloc, disk.bytes(file))? || row.number() != Some(disk.moment()) {
+        return Ok(false);
+    }
+    let stat = Row::new("1000 6").stat();
+    Ok(if next {
+        disk.stat(file) == Ok(stat)
+    } else {
+        disk.stat(file).is_err()
+    })
 }
 
+// The third call fails alone, or every call behind the second.
 #[test]
-fn room_that_no_memory_has_is_refused(rt: HostRuntime) -> Result<(), Fail> {
-    let mut disk = disk(rt.alloc(), &[], None)?;
-    assert!(rt; disk.reserve(FileNo::new(0), u64::MAX, 2).is_err());
-    assert!(rt; write(&mut disk, FileNo::new(0), 0, b"abc")?);
+fn each_call_may_fail(rt: HostRuntime) -> Result<(), Fail> {
+    let alloc = rt.alloc();
+    for line in FAILURES.lines() {
+        let alone = disk(alloc, &[3], None)?;
+        assert!(rt; fails_third(alloc, alone, Row::new(line), true)?, "{line}");
+        let first = disk(alloc, &[], Some(2))?;
+        assert!(rt; fails_third(alloc, first, Row::new(line), false)?, "{line}");
+    }
     Ok(())
 }

@@ -1,152 +1,98 @@
-use hx_meta::{Meta, MetaError, read, write};
-use hx_etag::Stat;
+use crate::tables::{Row, repeated};
 use hx_events::Bytes;
+use hx_meta::{Meta, MetaError, read, write};
+use std::alloc::Global;
 use std::test::Fail;
 
-#[test]
-fn writes_and_reads_back(rt: HostRuntime) -> Result<(), Fail> {
-    for (base, type_id, text) in [
-        (None, "", "{\"typeId\":\"\"}"),
-        (
-            Some(Stat {
-                mtime: 1000,
-                size: 5,
-            }),
-            "",
-            "{\"etag\":\"15e5\",\"mtime\":1000,\"size\":5,\"typeId\":\"\"}",
-        ),
-        (None, "a \"b\\", "{\"typeId\":\"a \\\"b\\\\\"}"),
-        (
-            Some(Stat {
-                mtime: u64::MAX,
-                size: 0,
-            }),
-            "",
-            "{\"etag\":\"1n3rsh11f098rn0\",\"mtime\":18446744073709551615,\"size\":0,\"typeId\":\"\"}",
-        ),
-    ] {
-        let mut bytes = Vec::new(rt.alloc());
-        bytes.extend_from_slice(type_id.as_bytes())?;
-        assert!(rt;
-            type_id
-                .as_bytes()
-                .iter()
-                .all(|byte| 32 <= *byte && *byte <= 126)
-        );
-        let meta = Meta {
-            base,
-            type_id: Bytes::new(bytes),
-        };
-        let written = write(rt.alloc(), &meta)?;
-        assert_eq!(rt; written.as_slice(), text.as_bytes());
-        let found = read(rt.alloc(), &written)?;
-        assert_eq!(rt; found.base, base);
-        assert_eq!(rt; found.type_id.as_slice(), type_id.as_bytes());
+// A base, a type id, and the text that is written of both.
+const WRITTEN: &str = r#"none = ={"typeId":""}
+1000 5 = ={"etag":"15e5","mtime":1000,"size":5,"typeId":""}
+none =a%20"b\ ={"typeId":"a%20\"b\\"}
+18446744073709551615 0 = ={"etag":"1n3rsh11f098rn0","mtime":18446744073709551615,"size":0,"typeId":""}"#;
+
+fn is_written(alloc: Global, mut row: Row) -> Result<bool, Fail> {
+    let base = row.stat();
+    let type_id = row.bytes(alloc)?;
+    if !type_id.iter().all(|byte| 32 <= *byte && *byte <= 126) {
+        return Ok(false);
     }
-    Ok(())
+    let type_id = Bytes::new(type_id);
+    let written = write(alloc, &Meta { base, type_id })?;
+    row.has(alloc, &written)
 }
 
-#[test]
-fn reads_the_base_where_the_keys_agree(rt: HostRuntime) -> Result<(), Fail> {
-    let base = Some(Stat {
-        mtime: 1000,
-        size: 5,
-    });
-    for (text, found) in [
-        (
-            "{\"typeId\":\"\",\"mtime\":1000,\"size\":5,\"etag\":\"15e5\",\"ctime\":1,\"orphaned\":false}",
-            base,
-        ),
-        (
-            " { \"size\" : 5 , \"etag\" : \"15\\u0065\\u0035\" , \"mtime\" : 1000 } ",
-            base,
-        ),
-        (
-            "{\"mtime\":7,\"size\":5,\"etag\":\"15e5\",\"mtime\":1000}",
-            base,
-        ),
-        ("{\"mtime\":1000,\"size\":6,\"etag\":\"15e5\"}", None),
-        ("{\"mtime\":1.5,\"size\":5,\"etag\":\"15e5\"}", None),
-        ("{\"mtime\":1000.0,\"size\":5,\"etag\":\"15e5\"}", None),
-        ("{\"mtime\":1e3,\"size\":5,\"etag\":\"15e5\"}", None),
-        ("{\"mtime\":-0,\"size\":0,\"etag\":\"00\"}", None),
-        ("{\"mtime\":-1,\"size\":0,\"etag\":\"00\"}", None),
-        (
-            "{\"mtime\":18446744073709551616,\"size\":0,\"etag\":\"00\"}",
-            None,
-        ),
-        ("{\"mtime\":\"1000\",\"size\":5,\"etag\":\"15e5\"}", None),
-        ("{\"mtime\":1000,\"size\":5,\"etag\":15}", None),
-        ("{\"mtime\":1000,\"size\":5}", None),
-        ("{\"mtime\":1000,\"etag\":\"15e5\"}", None),
-        ("{\"size\":5,\"etag\":\"15e5\"}", None),
-        ("{}", None),
-    ] {
-        assert_eq!(rt; read(rt.alloc(), text.as_bytes())?.base, found, "{text}");
-    }
-    Ok(())
-}
+// A text, and the base and the type id that are read from it, where it is an object. The base counts only where its three keys agree.
+const READ: &str = r#"={"typeId":""} none =
+={"etag":"15e5","mtime":1000,"size":5,"typeId":""} 1000 5 =
+={"typeId":"a%20\"b\\"} none =a%20"b\
+={"etag":"1n3rsh11f098rn0","mtime":18446744073709551615,"size":0,"typeId":""} 18446744073709551615 0 =
+={"typeId":"","mtime":1000,"size":5,"etag":"15e5","ctime":1,"orphaned":false} 1000 5 =
+=%20{%20"size"%20:%205%20,%20"etag"%20:%20"15\u0065\u0035"%20,%20"mtime"%20:%201000%20}%20 1000 5 =
+={"mtime":7,"size":5,"etag":"15e5","mtime":1000} 1000 5 =
+={"mtime":1000,"size":6,"etag":"15e5"} none =
+={"mtime":1.5,"size":5,"etag":"15e5"} none =
+={"mtime":1000.0,"size":5,"etag":"15e5"} none =
+={"mtime":1e3,"size":5,"etag":"15e5"} none =
+={"mtime":-0,"size":0,"etag":"00"} none =
+={"mtime":-1,"size":0,"etag":"00"} none =
+={"mtime":18446744073709551616,"size":0,"etag":"00"} none =
+={"mtime":"1000","size":5,"etag":"15e5"} none =
+={"mtime":1000,"size":5,"etag":15} none =
+={"mtime":1000,"size":5} none =
+={"mtime":1000,"etag":"15e5"} none =
+={"size":5,"etag":"15e5"} none =
+={"typeId":"n"} none =n
+={"typeId":"\u00e4"} none =%C3%A4
+={"typeId":"a","typeId":"b"} none =b
+={"typeId":null} none =
+={"typeId":["n"]} none =
+={} none =
+= refused
+=[] refused
+=null refused
+=1 refused
+="{}" refused
+={ refused
+={}%20{} refused
+={"a":1,} refused
+={"a":1e400} refused
+={"a":"%0A"} refused
+={"%FF":1} refused
+=%EF%BB%BF{} refused"#;
 
-#[test]
-fn reads_the_type_id(rt: HostRuntime) -> Result<(), Fail> {
-    for (text, type_id) in [
-        ("{\"typeId\":\"n\"}", "n"),
-        ("{\"typeId\":\"\\u00e4\"}", "\u{e4}"),
-        ("{\"typeId\":\"a\",\"typeId\":\"b\"}", "b"),
-        ("{\"typeId\":null}", ""),
-        ("{\"typeId\":[\"n\"]}", ""),
-        ("{}", ""),
-    ] {
-        assert_eq!(rt;
-            read(rt.alloc(), text.as_bytes())?.type_id.as_slice(),
-            type_id.as_bytes(),
-            "{text}"
-        );
-    }
-    Ok(())
-}
-
-#[test]
-fn refuses_what_is_no_object(rt: HostRuntime) {
-    for bytes in [
-        b"".as_slice(),
-        b"[]",
-        b"null",
-        b"1",
-        b"\"{}\"",
-        b"{",
-        b"{} {}",
-        b"{\"a\":1,}",
-        b"{\"a\":1e400}",
-        b"{\"a\":\"\n\"}",
-        &[b'{', b'"', 0xFF, b'"', b':', b'1', b'}'],
-        &[0xEF, 0xBB, 0xBF, b'{', b'}'],
-    ] {
-        assert!(rt;
-            matches!(read(rt.alloc(), bytes), Err(MetaError::NotMeta)),
-            "{bytes:?}"
-        );
+fn is_read(alloc: Global, mut row: Row) -> Result<bool, Fail> {
+    let text = row.bytes(alloc)?;
+    match read(alloc, &text) {
+        Ok(meta) => Ok(meta.base == row.stat() && row.has(alloc, meta.type_id.as_slice())?),
+        Err(MetaError::NotMeta) => Ok(row.field() == "refused"),
+        Err(MetaError::NoMemory) => Ok(false),
     }
 }
 
-fn nested(rt: &HostRuntime, depth: usize) -> Result<Vec<u8>, Fail> {
-    let mut text = Vec::new(rt.alloc());
-    text.extend_from_slice(b"{\"a\":")?;
-    for _ in 0..depth {
-        text.push(b'[')?;
-    }
-    for _ in 0..depth {
-        text.push(b']')?;
-    }
+// Whether an object is read that has arrays nested so deep.
+fn reads_nested(alloc: Global, depth: u64) -> Result<bool, Fail> {
+    let mut text = Vec::from_slice(alloc, b"{\"a\":")?;
+    text.extend_from_slice(&repeated(alloc, b"[", depth)?)?;
+    text.extend_from_slice(&repeated(alloc, b"]", depth)?)?;
     text.push(b'}')?;
-    Ok(text)
+    Ok(read(alloc, &text).is_ok())
 }
 
 #[test]
-fn reads_no_deeper_than_its_parser(rt: HostRuntime) -> Result<(), Fail> {
-    for (depth, reads) in [(126, true), (127, false), (10_000, false)] {
-        let text = nested(&rt, depth)?;
-        assert_eq!(rt; read(rt.alloc(), &text).is_ok(), reads, "{depth}");
+fn objects_are_written_and_read_no_deeper_than_their_parser_goes(
+    rt: HostRuntime,
+) -> Result<(), Fail> {
+    for line in WRITTEN.lines() {
+        assert!(rt; is_written(rt.alloc(), Row::new(line))?, "{line}");
+    }
+    for line in READ.lines() {
+        assert!(rt; is_read(rt.alloc(), Row::new(line))?, "{line}");
+    }
+    for depth in [126, 127, 10_000] {
+        assert!(rt;
+            reads_nested(rt.alloc(), depth)? == (depth == 126),
+            "{depth}"
+        );
     }
     Ok(())
 }

@@ -2,14 +2,14 @@ ghost use Rattle.std.specs.Prelude.{◌≡◌, ◌<◌, ◌+◌, ◌%◌, ◌^�
 ghost use mathlib.Core.List.{IsPrefix};
 ghost use Rattle.hx_events.specs.declared.life.Entry.{Entry};
 ghost use Rattle.hx_passes.specs.declared.rule.Finding.{Finding};
-ghost use Rattle.hx_passes.specs.declared.tests.Staged.TheVariants.{Did, Rest, Over};
+ghost use Rattle.hx_tests_low.specs.declared.passes.Staged.TheVariants.{Did, Rest, Over};
 ghost use Rattle.hx_passes.specs.Rules.{total};
 ghost use Rattle.hx_passes.specs.Views.{with_call, with_leave, with_note};
 ghost use Rattle.hx_passes.specs.Closing.{IsClosed};
 ghost use Rattle.hx_passes.specs.declared.rule.Finding.TheVariants.{NothingDue};
 
-use hx_passes::*;
 use hx_events::{Actor, Bytes, Entry, Event, Outcome, ResNo};
+use hx_passes::*;
 use std::alloc::{AllocError, Global};
 use std::marker::{Brand, Model, PhantomData};
 use std::process::Abort;
@@ -147,28 +147,51 @@ fn by_hand<J: Naming, R: Abort>(
     let mut window = passes.split(&mut closer, Actor::Window(0), 2);
     let notice = passes.split(&mut window, Actor::Window(0), 1);
     let mut writer = passes.split(&mut closer, Actor::Writer(0), 1);
-    assert_eq!(rt; passes.front(&mut window), 0);
-    assert_eq!(rt; desk.act(alloc, &passes, &mut window, Event::Quit)?, 1);
-    assert_eq!(rt; passes.front(&mut closer), 1);
-    assert_eq!(rt;
-        answer(&desk.stage(alloc, &passes, &mut writer, Kind::Vault)?),
-        2
-    );
-    assert_eq!(rt;
-        answer(&desk.stage(alloc, &passes, &mut writer, Kind::Vault)?),
-        100
-    );
+    entries(rt, alloc, &mut desk, &passes, &mut window, &mut writer)?;
     desk.leave(&passes, &mut window);
-    assert_eq!(rt;
-        answer(&desk.stage(alloc, &passes, &mut writer, Kind::Save)?),
-        200
-    );
+    is_over(rt, alloc, &mut desk, &passes, &mut writer)?;
     passes.meet(&mut writer, notice);
-    assert_eq!(rt; passes.front(&mut closer), 2);
-    others.push(window).map_err(|_| AllocError)?;
-    others.push(writer).map_err(|_| AllocError)?;
+    assert!(rt; passes.front(&mut closer) == 2);
+    others.push_reserved(window);
+    others.push_reserved(writer);
     let history = desk.close(passes, closer, others);
-    assert_eq!(rt; history.len(), 2);
+    assert!(rt; history.len() == 2);
+    Ok(())
+}
+
+// The window makes an entry, and the writer one that is due, and finds none due then.
+fn entries<J: Naming, R: Abort>(
+    rt: &R,
+    alloc: Global,
+    desk: &mut Desk<J>,
+    passes: &Passes<J>,
+    window: &mut Pass<J>,
+    writer: &mut Pass<J>,
+) -> Result<(), Fail>
+    requires says { (h : List Entry) → (f : Finding) → (length h % 2) ≡ 0 → J.says f h }
+    requires here { window.old.leaves ≡ [] }
+    ensures window { window.new.parts ≡ window.old.parts }
+    ensures writer { writer.new.parts ≡ writer.old.parts }
+    ensures here { window.new.leaves ≡ [] }
+{
+    assert!(rt; desk.act(alloc, passes, window, Event::Quit)? == 1);
+    assert!(rt; answer(&desk.stage(alloc, passes, writer, Kind::Vault)?) == 2);
+    assert!(rt; answer(&desk.stage(alloc, passes, writer, Kind::Vault)?) == 100);
+    Ok(())
+}
+
+// The writer finds no stage due, and no window that hasn't left.
+fn is_over<J: Naming, R: Abort>(
+    rt: &R,
+    alloc: Global,
+    desk: &mut Desk<J>,
+    passes: &Passes<J>,
+    writer: &mut Pass<J>,
+) -> Result<(), Fail>
+    requires says { (h : List Entry) → (f : Finding) → (length h % 2) ≡ 0 → J.says f h }
+    ensures writer { writer.new.parts ≡ writer.old.parts }
+{
+    assert!(rt; answer(&desk.stage(alloc, passes, writer, Kind::Save)?) == 200);
     Ok(())
 }
 
@@ -176,16 +199,14 @@ fn by_hand<J: Naming, R: Abort>(
 #[test]
 fn two_threads(rt: HostRuntime) -> Result<(), Fail> {
     let mut history = Vec::with_capacity(rt.alloc(), 1)?;
-    history
-        .push(Entry {
-            moment: 0,
-            faults: 0,
-            actor: Actor::Closer,
-            event: Event::Quit,
-            outcome: Outcome::Idle,
-            content: Bytes::new(Vec::new(rt.alloc())),
-        })
-        .map_err(|_| AllocError)?;
+    history.push_reserved(Entry {
+        moment: 0,
+        faults: 0,
+        actor: Actor::Closer,
+        event: Event::Quit,
+        outcome: Outcome::Idle,
+        content: Bytes::new(Vec::new(rt.alloc())),
+    });
     let opened = Opened::new(rt.alloc(), history.as_slice(), 2, 3)?;
     by_two::<Brand, _>(&rt, rt.alloc(), history, opened)
 }
@@ -218,8 +239,8 @@ fn by_two<J: Naming + Send + Sync, R: Threads + Wait + Abort + Sync>(
         { four(rt, alloc, &desk, &passes, two) },
     );
     assert_eq!(rt; passes.front(&mut closer), 9);
-    others.push(a).map_err(|_| AllocError)?;
-    others.push(b).map_err(|_| AllocError)?;
+    others.push_reserved(a);
+    others.push_reserved(b);
     let history = desk.into_inner().close(passes, closer, others);
     assert_eq!(rt; history.len(), 9);
     Ok(())

@@ -1,245 +1,154 @@
+use crate::tables::{Row, repeated};
+use hx_events::{Backup, Bytes, SlotForm, is_resource};
 use hx_record::{RecordError, decode, encode};
-use hx_etag::Stat;
-use hx_events::{Backup, Bytes, SlotForm};
 use std::alloc::Global;
-use std::process::Abort;
 use std::test::Fail;
 
-const BASE: Option<Stat> = Some(Stat {
-    mtime: 1000,
-    size: 5,
-});
+// A base, and the record of the resource file:///a and the content hello with it.
+const WRITTEN: &str =
+    r#"1000 5 =file:///a%20{"etag":"15e5","mtime":1000,"size":5,"typeId":""}%0Ahello
+none =%66%69%6c%65%3a%2f%2f%2f%61%20%7b%22%74%79%70%65%49%64%22%3a%22%22%7d%0a%68%65%6c%6c%6f"#;
 
-fn bytes(alloc: Global, parts: &[&[u8]]) -> Result<Vec<u8>, Fail> {
-    let mut joined = Vec::new(alloc);
-    for part in parts {
-        joined.extend_from_slice(part)?;
+fn is_written(alloc: Global, mut row: Row) -> Result<bool, Fail> {
+    let resource = Row::new("=file:///a").bytes(alloc)?;
+    if !is_resource(&resource) {
+        return Ok(false);
     }
-    Ok(joined)
-}
-
-fn many(alloc: Global, byte: u8, count: usize) -> Result<Vec<u8>, Fail> {
-    let mut bytes = Vec::new(alloc);
-    bytes.resize(count, byte)?;
-    Ok(bytes)
-}
-
-fn assert_reads(
-    rt: &impl Abort,
-    alloc: Global,
-    record: &[u8],
-    form: SlotForm,
-    resource: &[u8],
-    base: Option<Stat>,
-    content: &[u8],
-) -> Result<(), Fail> {
-    let backup = decode(alloc, record, form)?;
-    assert_eq!(rt; backup.resource.as_slice(), resource);
-    assert_eq!(rt; backup.base, base);
-    assert_eq!(rt; backup.content.as_slice(), content);
-    Ok(())
-}
-
-fn assert_refused(
-    rt: &impl Abort,
-    alloc: Global,
-    record: &[u8],
-    form: SlotForm,
-    refusal: RecordError,
-) {
-    match decode(alloc, record, form) {
-        Ok(_) => assert!(rt; false, "read, and not {refusal:?}"),
-        Err(error) => assert_eq!(rt; error, refusal),
+    let content = Row::new("=hello").bytes(alloc)?;
+    let base = row.stat();
+    let backup = Backup {
+        resource: Bytes::new(resource),
+        base,
+        content: Bytes::new(content),
+    };
+    if backup.content.as_slice().len() > 5 {
+        return Ok(false);
     }
+    let record = encode(alloc, &backup)?;
+    row.has(alloc, &record)
+}
+
+// The forms that a record is read in, the record, and what is read: the resource, the base and the content, or why none is.
+const READ: &str =
+    r#"both =file:///a%20{"etag":"15e5","mtime":1000,"size":5,"typeId":""}%0Ahello =file:///a 1000 5 =hello
+both =%66%69%6c%65%3a%2f%2f%2f%61%20%7b%22%74%79%70%65%49%64%22%3a%22%22%7d%0a%68%65%6c%6c%6f =file:///a none =hello
+both =r%20{}%0A =r none =
+both =r%20{"typeId":"","mtime":1000,"size":5,"etag":"15e5","ctime":1,"orphaned":false}%0Ax =r 1000 5 =x
+both =r%20{"mtime":1000,"size":6,"etag":"15e5"}%0A =r none =
+both =r%20{"mtime":1.5,"size":5,"etag":"15e5"}%0A =r none =
+both =r%20%20{}%0A%0A =r none =%0A
+one =r%20{"typeId":"n"}%0A =r none =
+two =r%20{"typeId":7}%0A =r none =
+two =r%20{"typeId":"n"}%0A othertype
+both = nolinefeed
+both =r%20{} nolinefeed
+both =r%0A badresource
+both =%20{}%0A badresource
+both =%0A badresource
+both =r%7F%20{}%0A badresource
+both =r%09t%20[]%0A badresource
+both =r%20[]%0A notmeta
+both =r%20{%0A} notmeta
+both =r%20%0A notmeta
+both =r%20%FF%0A notmeta"#;
+
+fn name(error: RecordError) -> &'static str {
+    match error {
+        RecordError::NoLineFeed => "nolinefeed",
+        RecordError::BadResource => "badresource",
+        RecordError::NotMeta => "notmeta",
+        RecordError::OtherType => "othertype",
+        RecordError::TooLong => "toolong",
+        RecordError::NoMemory => "nomemory",
+    }
+}
+
+fn is_found(alloc: Global, backup: &Backup, mut row: Row) -> Result<bool, Fail> {
+    let resource = row.bytes(alloc)?;
+    let base = row.stat();
+    let content = row.bytes(alloc)?;
+    Ok(
+        backup.resource.as_slice() == resource.as_slice()
+            && backup.base == base
+            && backup.content.as_slice() == content.as_slice(),
+    )
+}
+
+fn is_read(alloc: Global, form: SlotForm, mut row: Row) -> Result<bool, Fail> {
+    match decode(alloc, &row.bytes(alloc)?, form) {
+        Ok(backup) => is_found(alloc, &backup, row),
+        Err(error) => Ok(row.field() == name(error)),
+    }
+}
+
+fn is_read_by_forms(alloc: Global, mut row: Row) -> Result<bool, Fail> {
+    let forms = row.field();
+    if forms != "two" && !is_read(alloc, SlotForm::One, row)? {
+        return Ok(false);
+    }
+    Ok(forms == "one" || is_read(alloc, SlotForm::Two, row)?)
 }
 
 #[test]
-fn records_as_they_are_written(rt: HostRuntime) -> Result<(), Fail> {
-    for (base, text) in [
-        (
-            BASE,
-            b"file:///a {\"etag\":\"15e5\",\"mtime\":1000,\"size\":5,\"typeId\":\"\"}\nhello".as_slice(),
-        ),
-        (
-            None,
-            &[
-                0x66, 0x69, 0x6c, 0x65, 0x3a, 0x2f, 0x2f, 0x2f, 0x61, 0x20, 0x7b, 0x22, 0x74, 0x79,
-                0x70, 0x65, 0x49, 0x64, 0x22, 0x3a, 0x22, 0x22, 0x7d, 0x0a, 0x68, 0x65, 0x6c, 0x6c,
-                0x6f,
-            ],
-        ),
-    ] {
-        let resource = Vec::from_slice(rt.alloc(), b"file:///a")?;
-        let content = Vec::from_slice(rt.alloc(), b"hello")?;
-        let backup = Backup {
-            resource: Bytes::new(resource),
-            base,
-            content: Bytes::new(content),
-        };
-        let record = encode(rt.alloc(), &backup)?;
-        assert_eq!(rt; record.as_slice(), text);
-        for form in [SlotForm::One, SlotForm::Two] {
-            assert_reads(&rt, rt.alloc(), &record, form, b"file:///a", base, b"hello")?;
-        }
+fn a_backup_is_written_and_read_or_refused_by_its_form(rt: HostRuntime) -> Result<(), Fail> {
+    for line in WRITTEN.lines() {
+        assert!(rt; is_written(rt.alloc(), Row::new(line))?, "{line}");
     }
-    Ok(())
-}
-
-#[test]
-fn records_that_are_read(rt: HostRuntime) -> Result<(), Fail> {
-    for (record, base, content) in [
-        (b"r {}\n".as_slice(), None, b"".as_slice()),
-        (
-            b"r {\"typeId\":\"\",\"mtime\":1000,\"size\":5,\"etag\":\"15e5\",\"ctime\":1,\"orphaned\":false}\nx",
-            BASE,
-            b"x",
-        ),
-        (
-            b"r {\"mtime\":1000,\"size\":6,\"etag\":\"15e5\"}\n",
-            None,
-            b"",
-        ),
-        (
-            b"r {\"mtime\":1.5,\"size\":5,\"etag\":\"15e5\"}\n",
-            None,
-            b"",
-        ),
-        (b"r  {}\n\n", None, b"\n"),
-    ] {
-        for form in [SlotForm::One, SlotForm::Two] {
-            assert_reads(&rt, rt.alloc(), record, form, b"r", base, content)?;
-        }
+    for line in READ.lines() {
+        assert!(rt; is_read_by_forms(rt.alloc(), Row::new(line))?, "{line}");
     }
     Ok(())
 }
 
-#[test]
-fn type_ids_by_form(rt: HostRuntime) -> Result<(), Fail> {
-    assert_reads(
-        &rt,
-        rt.alloc(),
-        b"r {\"typeId\":\"n\"}\n",
-        SlotForm::One,
-        b"r",
-        None,
-        b"",
-    )?;
-    assert_reads(
-        &rt,
-        rt.alloc(),
-        b"r {\"typeId\":7}\n",
-        SlotForm::Two,
-        b"r",
-        None,
-        b"",
-    )?;
-    Ok(())
+// A form, and a record: its beginning, a count, the byte that is repeated so often, and the end. Then how many bytes of resource and
+// content are read, or why none are.
+const LONG: &str = r#"two =r%20{} 9995 =%20 =%0A 1 0
+two =r%20{} 9996 =%20 =%0A nolinefeed
+one = 10000 =r =%20{}%0A nolinefeed
+one = 1001 =r =%20{}%0A badresource
+one = 1000 =r =%20{}%0A 1000 0
+one =r%20{}%0A 262144 =x = 1 262144
+one =r%20{}%0A 262145 =x = toolong
+two =r%20{}%0A 524288 =x = 1 524288
+two =r%20{}%0A 524289 =x = toolong
+one =r%20{"typeId":"n"}%0A 524289 =x = toolong
+two =r%20{"typeId":"n"}%0A 524289 =x = othertype"#;
+
+fn long(alloc: Global, row: &mut Row) -> Result<Vec<u8>, Fail> {
+    let mut record = row.bytes(alloc)?;
+    let count = row.number().unwrap_or(0);
+    record.extend_from_slice(&repeated(alloc, &row.bytes(alloc)?, count)?)?;
+    record.extend_from_slice(&row.bytes(alloc)?)?;
+    Ok(record)
+}
+
+// Whether these are the first and the last bytes of the record, and as many as the row says.
+fn has_lengths(record: &[u8], backup: &Backup, mut row: Row) -> bool {
+    let resource = backup.resource.as_slice();
+    let content = backup.content.as_slice();
+    row.number() == Some(resource.len() as u64)
+        && row.number() == Some(content.len() as u64)
+        && record.starts_with(resource)
+        && record.ends_with(content)
+        && backup.base.is_none()
+}
+
+fn is_long(alloc: Global, mut row: Row) -> Result<bool, Fail> {
+    let form = match row.field() {
+        "one" => SlotForm::One,
+        _ => SlotForm::Two,
+    };
+    let record = long(alloc, &mut row)?;
+    match decode(alloc, &record, form) {
+        Ok(backup) => Ok(has_lengths(&record, &backup, row)),
+        Err(error) => Ok(row.field() == name(error)),
+    }
 }
 
 #[test]
-fn refusals_in_their_order(rt: HostRuntime) {
-    for (record, refusal) in [
-        (b"".as_slice(), RecordError::NoLineFeed),
-        (b"r {}", RecordError::NoLineFeed),
-        (b"r\n", RecordError::BadResource),
-        (b" {}\n", RecordError::BadResource),
-        (b"\n", RecordError::BadResource),
-        (b"r\x7F {}\n", RecordError::BadResource),
-        (b"r\tt []\n", RecordError::BadResource),
-        (b"r []\n", RecordError::NotMeta),
-        (b"r {\n}", RecordError::NotMeta),
-        (b"r \n", RecordError::NotMeta),
-        (b"r \xFF\n", RecordError::NotMeta),
-    ] {
-        for form in [SlotForm::One, SlotForm::Two] {
-            assert_refused(&rt, rt.alloc(), record, form, refusal);
-        }
+fn a_record_is_read_up_to_its_limits(rt: HostRuntime) -> Result<(), Fail> {
+    for line in LONG.lines() {
+        assert!(rt; is_long(rt.alloc(), Row::new(line))?, "{line}");
     }
-    assert_refused(
-        &rt,
-        rt.alloc(),
-        b"r {\"typeId\":\"n\"}\n",
-        SlotForm::Two,
-        RecordError::OtherType,
-    );
-}
-
-#[test]
-fn the_line_feed_and_the_resource_at_their_limits(rt: HostRuntime) -> Result<(), Fail> {
-    // with a line feed as byte 10,000 and as byte 10,001
-    for (blanks, refused) in [(9_995, false), (9_996, true)] {
-        let blanks = many(rt.alloc(), b' ', blanks)?;
-        let record = bytes(rt.alloc(), &[b"r {}", &blanks, b"\n"])?;
-        if refused {
-            assert_refused(
-                &rt,
-                rt.alloc(),
-                &record,
-                SlotForm::Two,
-                RecordError::NoLineFeed,
-            );
-        } else {
-            assert_reads(&rt, rt.alloc(), &record, SlotForm::Two, b"r", None, b"")?;
-        }
-    }
-    let resource = many(rt.alloc(), b'r', 10_000)?;
-    assert_eq!(rt; resource.len(), 10_000);
-    for (count, refusal) in [
-        (10_000, Some(RecordError::NoLineFeed)),
-        (1001, Some(RecordError::BadResource)),
-        (1000, None),
-    ] {
-        assert!(rt; count <= resource.len());
-        let record = bytes(rt.alloc(), &[&resource[..count], b" {}\n"])?;
-        match refusal {
-            Some(refusal) => assert_refused(&rt, rt.alloc(), &record, SlotForm::One, refusal),
-            None => assert_reads(
-                &rt,
-                rt.alloc(),
-                &record,
-                SlotForm::One,
-                &resource[..count],
-                None,
-                b"",
-            )?,
-        }
-    }
-    Ok(())
-}
-
-#[test]
-fn the_content_at_its_limits(rt: HostRuntime) -> Result<(), Fail> {
-    let content = many(rt.alloc(), b'x', 524_289)?;
-    assert_eq!(rt; content.len(), 524_289);
-    for (form, limit) in [(SlotForm::One, 262_144), (SlotForm::Two, 524_288)] {
-        assert!(rt; limit < content.len());
-        let record = bytes(rt.alloc(), &[b"r {}\n", &content[..limit]])?;
-        assert_reads(
-            &rt,
-            rt.alloc(),
-            &record,
-            form,
-            b"r",
-            None,
-            &content[..limit],
-        )?;
-        let record = bytes(rt.alloc(), &[b"r {}\n", &content[..limit + 1]])?;
-        assert_refused(&rt, rt.alloc(), &record, form, RecordError::TooLong);
-    }
-    let record = bytes(rt.alloc(), &[b"r {\"typeId\":\"n\"}\n", &content])?;
-    assert_refused(
-        &rt,
-        rt.alloc(),
-        &record,
-        SlotForm::One,
-        RecordError::TooLong,
-    );
-    assert_refused(
-        &rt,
-        rt.alloc(),
-        &record,
-        SlotForm::Two,
-        RecordError::OtherType,
-    );
     Ok(())
 }

@@ -1,99 +1,118 @@
-use hx_restore::restored;
+use crate::tables::Row;
 use hx_events::{Bytes, PairFound, Side};
+use hx_restore::restored;
 use hx_slots::RawPair;
 use std::alloc::Global;
-use std::process::Abort;
 use std::test::Fail;
 
-const NOTHING: &[u8] = b"";
+// Slot files by name: none, two backups of one resource with the stamps 5 and 6, one with the stamp 5 and another content, one of another
+// resource, and the same behind a closed gate; a body that is no record, a gate and nothing behind it, a header with a length that no body
+// has, and a backup of another program in the form in which the type id counts.
+const FILES: &str = r#"nothing =
+hello =%01%00%00%00%00%00%00%00%05%00%00%00%1Dfile:///a%20{"typeId":""}%0Ahello
+world =%01%00%00%00%00%00%00%00%06%00%00%00%1Dfile:///a%20{"typeId":""}%0Aworld
+aslate =%01%00%00%00%00%00%00%00%05%00%00%00%1Dfile:///a%20{"typeId":""}%0Aworld
+other =%01%00%00%00%00%00%00%00%07%00%00%00%1Dfile:///b%20{"typeId":""}%0Aother
+closed =%02%00%00%00%00%00%00%00%07%00%00%00%1Dfile:///b%20{"typeId":""}%0Aother
+spoilt =%01%00%00%00%00%00%00%00%09%00%00%00%03abc
+gate =%01
+toolong =%01%00%00%00%00%00%00%00%00%FF%FF%FF%FF
+foreign =%01%00%00%00%00%00%00%00%01%FF%FF%FF%FF%00%00%00%11r%20{"typeId":"n"}%0A"#;
 
-const SPOILT: &[u8] = b"\x01\0\0\0\0\0\0\0\x09\0\0\0\x03abc";
+// The files of each pair of one vault, side A first, and what is found of it.
+const VAULT: &str = "\
+hello nothing a =hello
+hello nothing twin 0
+spoilt nothing damaged
+closed nothing empty
+nothing other b =other
+other spoilt twin 4
+gate toolong empty
+foreign nothing damaged";
 
-const HELLO: &[u8] = b"\x01\0\0\0\0\0\0\0\x05\0\0\0\x1Dfile:///a {\"typeId\":\"\"}\nhello";
+// The same for vaults of one pair each: the side of the larger stamp counts, and side A at a tie.
+const PAIRS: &str = "\
+hello world b =world
+world hello a =world
+hello hello a =hello
+hello aslate a =hello
+aslate hello a =world
+hello spoilt a =hello
+spoilt hello b =hello
+other world a =other";
 
-const WORLD: &[u8] = b"\x01\0\0\0\0\0\0\0\x06\0\0\0\x1Dfile:///a {\"typeId\":\"\"}\nworld";
-
-const AS_LATE: &[u8] = b"\x01\0\0\0\0\0\0\0\x05\0\0\0\x1Dfile:///a {\"typeId\":\"\"}\nworld";
-
-const OTHER: &[u8] = b"\x01\0\0\0\0\0\0\0\x07\0\0\0\x1Dfile:///b {\"typeId\":\"\"}\nother";
-
-const CLOSED: &[u8] = b"\x02\0\0\0\0\0\0\0\x07\0\0\0\x1Dfile:///b {\"typeId\":\"\"}\nother";
-
-// A gate and nothing behind it, and a header with a length that no body has.
-const GATE: &[u8] = b"\x01";
-
-const TOO_LONG: &[u8] = b"\x01\0\0\0\0\0\0\0\0\xFF\xFF\xFF\xFF";
-
-// A backup of another program in form Two, in which the type id counts.
-const FOREIGN: &[u8] = b"\x01\0\0\0\0\0\0\0\x01\xFF\xFF\xFF\xFF\0\0\0\x11r {\"typeId\":\"n\"}\n";
-
-fn raw(alloc: Global, sides: [&[u8]; 2]) -> Result<RawPair, Fail> {
-    Ok(RawPair {
-        a: Bytes::new(Vec::from_slice(alloc, sides[0])?),
-        b: Bytes::new(Vec::from_slice(alloc, sides[1])?),
-    })
+fn file(alloc: Global, name: &str) -> Result<Bytes, Fail> {
+    for line in FILES.lines() {
+        let mut row = Row::new(line);
+        if row.field() == name {
+            return Ok(Bytes::new(row.bytes(alloc)?));
+        }
+    }
+    Err(Fail::new(format_args!("no file {name}")))
 }
 
-fn assert_content(rt: &impl Abort, found: &PairFound, content: &[u8], on: Side) {
+fn raw(alloc: Global, mut row: Row) -> Result<RawPair, Fail> {
+    let a = file(alloc, row.field())?;
+    let b = file(alloc, row.field())?;
+    Ok(RawPair { a, b })
+}
+
+fn is_found(alloc: Global, found: &PairFound, mut row: Row) -> Result<bool, Fail> {
+    let _ = (row.field(), row.field());
+    let word = row.field();
     match found {
-        PairFound::Found(backup, side) => {
-            assert_eq!(rt; backup.content.as_slice(), content);
-            assert_eq!(rt; *side, on);
+        PairFound::Empty => Ok(word == "empty"),
+        PairFound::Damaged => Ok(word == "damaged"),
+        PairFound::Twin(earlier) => {
+            Ok(word == "twin" && row.number() == Some(u64::from(earlier.number())))
         }
-        _ => assert!(rt; false, "no backup was found"),
+        PairFound::Found(backup, side) => {
+            let wanted = match side {
+                Side::A => "a",
+                Side::B => "b",
+            };
+            Ok(word == wanted && row.has(alloc, backup.content.as_slice())?)
+        }
     }
 }
 
+fn raws(alloc: Global, lines: &str) -> Result<Vec<RawPair>, Fail> {
+    let mut pairs = Vec::new(alloc);
+    for line in lines.lines() {
+        pairs.push(raw(alloc, Row::new(line))?)?;
+    }
+    Ok(pairs)
+}
+
+fn are_found(alloc: Global, found: &[PairFound], lines: &str) -> Result<bool, Fail> {
+    for (place, line) in lines.lines().enumerate() {
+        let Some(found) = found.get(place) else {
+            return Ok(false);
+        };
+        if !is_found(alloc, found, Row::new(line))? {
+            return Ok(false);
+        }
+    }
+    Ok(true)
+}
+
+// Whether the pairs of these lines, which are one vault, are found as they say.
+fn is_restored(alloc: Global, lines: &str) -> Result<bool, Fail> {
+    let pairs = raws(alloc, lines)?;
+    if pairs.len() > 64 {
+        return Ok(false);
+    }
+    let found = restored(alloc, &pairs)?;
+    Ok(found.len() == pairs.len() && are_found(alloc, &found, lines)?)
+}
+
 #[test]
-fn the_first_of_two_pairs_counts_and_a_pair_that_does_not_read_is_damaged(
+fn a_pair_counts_by_its_newer_side_and_a_resource_by_its_first_pair(
     rt: HostRuntime,
 ) -> Result<(), Fail> {
-    let alloc = rt.alloc();
-    let mut pairs = Vec::new(alloc);
-    for sides in [
-        [HELLO, NOTHING],
-        [HELLO, NOTHING],
-        [SPOILT, NOTHING],
-        [CLOSED, NOTHING],
-        [NOTHING, OTHER],
-        [OTHER, SPOILT],
-        [GATE, TOO_LONG],
-        [FOREIGN, NOTHING],
-    ] {
-        pairs.push(raw(alloc, sides)?)?;
-    }
-    assert!(rt; pairs.len() <= 64);
-    let found = restored(alloc, &pairs)?;
-    assert_eq!(rt; found.len(), 8);
-    assert_content(&rt, &found[0], b"hello", Side::A);
-    assert!(rt; matches!(&found[1], PairFound::Twin(earlier) if earlier.number() == 0));
-    assert!(rt; matches!(&found[2], PairFound::Damaged));
-    assert!(rt; matches!(&found[3], PairFound::Empty));
-    assert_content(&rt, &found[4], b"other", Side::B);
-    assert!(rt; matches!(&found[5], PairFound::Twin(earlier) if earlier.number() == 4));
-    assert!(rt; matches!(&found[6], PairFound::Empty));
-    assert!(rt; matches!(&found[7], PairFound::Damaged));
-    Ok(())
-}
-
-#[test]
-fn the_side_of_the_larger_stamp_counts_and_side_a_at_a_tie(rt: HostRuntime) -> Result<(), Fail> {
-    let alloc = rt.alloc();
-    for (sides, content, side) in [
-        ([HELLO, WORLD], b"world".as_slice(), Side::B),
-        ([WORLD, HELLO], b"world", Side::A),
-        ([HELLO, HELLO], b"hello", Side::A),
-        ([HELLO, AS_LATE], b"hello", Side::A),
-        ([AS_LATE, HELLO], b"world", Side::A),
-        ([HELLO, SPOILT], b"hello", Side::A),
-        ([SPOILT, HELLO], b"hello", Side::B),
-        ([OTHER, WORLD], b"other", Side::A),
-    ] {
-        let mut pairs = Vec::new(alloc);
-        pairs.push(raw(alloc, sides)?)?;
-        let found = restored(alloc, &pairs)?;
-        assert_eq!(rt; found.len(), 1);
-        assert_content(&rt, &found[0], content, side);
+    assert!(rt; is_restored(rt.alloc(), VAULT)?);
+    for line in PAIRS.lines() {
+        assert!(rt; is_restored(rt.alloc(), line)?, "{line}");
     }
     Ok(())
 }

@@ -1,44 +1,29 @@
-use hx_slots::{Shown, close_gate, frame, open_gate, put_block, shown, slot_file};
-use hx_disk::Disk;
+use crate::tables::Row;
+use hx_disk::{Disk, FileNo};
 use hx_events::{PairNo, Side, SlotForm};
 use hx_memdisk::{MemDisk, Plan};
+use hx_slots::{Shown, close_gate, frame, open_gate, put_block, shown, slot_file};
+use std::alloc::Global;
 use std::test::Fail;
 
-const RECORD: &[u8] = b"file:///a {\"typeId\":\"\"}\nhello";
+// What the calls leave in a slot file that has the stamp 1 and a record of 29 bytes.
+const FILE: &str =
+    r#"=%01%00%00%00%00%00%00%00%01%FF%FF%FF%FF%00%00%00%1Dfile:///a%20{"typeId":""}%0Ahello"#;
 
-fn place(form: SlotForm, stamp: u64, start: usize, end: usize) -> Option<Shown> {
-    Some(Shown {
-        form,
-        stamp,
-        start,
-        end,
-    })
-}
-
-#[test]
-fn files_of_pairs(rt: HostRuntime) {
-    for (pair, a, b) in [(0, 0, 1), (1, 2, 3), (63, 126, 127)] {
-        assert!(rt; pair < 64);
-        assert_eq!(rt; slot_file(PairNo::new(pair), Side::A).number(), a);
-        assert_eq!(rt; slot_file(PairNo::new(pair), Side::B).number(), b);
+// Whether the file shows a body behind the last of the calls, and none before.
+fn are_made(disk: &mut MemDisk, file: FileNo, frame: &[u8]) -> Result<bool, Fail> {
+    if frame.len() != 45 {
+        return Ok(false);
     }
-}
-
-#[test]
-fn a_slot_file_as_it_is_written(rt: HostRuntime) -> Result<(), Fail> {
-    let frame = frame(rt.alloc(), 1, RECORD)?;
-    let mut file = Vec::new(rt.alloc());
-    file.push(1)?;
-    file.extend_from_slice(&frame)?;
-    let mut bytes = Vec::new(rt.alloc());
-    bytes.extend_from_slice(&[
-        1, 0, 0, 0, 0, 0, 0, 0, 1, 0xFF, 0xFF, 0xFF, 0xFF, 0, 0, 0, 0x1D,
-    ])?;
-    bytes.extend_from_slice(RECORD)?;
-    assert_eq!(rt; file.len(), 46);
-    assert_eq!(rt; file.as_slice(), bytes.as_slice());
-    assert_eq!(rt; shown(&file), place(SlotForm::Two, 1, 17, 46));
-    Ok(())
+    disk.reserve(file, 1, 2)?;
+    close_gate(disk, file)?;
+    let first = shown(disk.bytes(file)).is_none();
+    disk.reserve(file, 46, 2)?;
+    put_block(disk, file, 1, frame)?;
+    let second = shown(disk.bytes(file)).is_none();
+    disk.reserve(file, 1, 2)?;
+    open_gate(disk, file)?;
+    Ok(first && second && shown(disk.bytes(file)).is_some())
 }
 
 #[test]
@@ -50,102 +35,91 @@ fn the_calls_write_a_slot_file(rt: HostRuntime) -> Result<(), Fail> {
     };
     let mut disk = MemDisk::new(alloc, plan)?;
     let file = slot_file(PairNo::new(0), Side::B);
-    let frame = frame(alloc, 1, RECORD)?;
-    assert_eq!(rt; frame.len(), 45);
-    disk.reserve(file, 1, 2)?;
-    close_gate(&mut disk, file)?;
-    assert!(rt; shown(disk.bytes(file)).is_none());
-    disk.reserve(file, 46, 2)?;
-    put_block(&mut disk, file, 1, &frame)?;
-    assert!(rt; shown(disk.bytes(file)).is_none());
-    disk.reserve(file, 1, 2)?;
-    open_gate(&mut disk, file)?;
-    assert_eq!(rt; disk.bytes(file).len(), 46);
-    assert_eq!(rt; shown(disk.bytes(file)), place(SlotForm::Two, 1, 17, 46));
+    let frame = frame(alloc, 1, b"file:///a {\"typeId\":\"\"}\nhello")?;
+    assert!(rt; are_made(&mut disk, file, &frame)?);
+    assert!(rt; Row::new(FILE).has(alloc, disk.bytes(file))?);
     Ok(())
 }
 
-#[test]
-fn what_files_of_form_one_show(rt: HostRuntime) {
-    for (bytes, found) in [
-        (b"".as_slice(), None),
-        (b"\x01", None),
-        (b"\x01\0\0\0\0\0\0\0\x01\0\0\0", None),
-        (
-            b"\x01\0\0\0\0\0\0\0\x01\0\0\0\0",
-            place(SlotForm::One, 1, 13, 13),
-        ),
-        (
-            b"\x01\0\0\0\0\0\0\0\x01\0\0\0\x03abc",
-            place(SlotForm::One, 1, 13, 16),
-        ),
-        (
-            b"\x01\0\0\0\0\0\0\0\x01\0\0\0\x03abcde",
-            place(SlotForm::One, 1, 13, 16),
-        ),
-        (b"\x01\0\0\0\0\0\0\0\x01\0\0\0\x04abc", None),
-        (b"\0\0\0\0\0\0\0\0\x01\0\0\0\x03abc", None),
-        (b"\x02\0\0\0\0\0\0\0\x01\0\0\0\x03abc", None),
-        (b"\xFF\0\0\0\0\0\0\0\x01\0\0\0\x03abc", None),
-        (
-            b"\x01\xFF\xFF\xFF\xFF\xFF\xFF\xFF\xFF\0\0\0\x1Dfile:///a {\"typeId\":\"\"}\nhello",
-            place(SlotForm::One, u64::MAX, 13, 42),
-        ),
-        (
-            b"\x02\0\0\0\0\0\0\0\x01\0\0\0\x1Dfile:///a {\"typeId\":\"\"}\nhello",
-            None,
-        ),
-    ] {
-        assert_eq!(rt; shown(bytes), found, "{bytes:?}");
-    }
+// A pair, and the files of its sides.
+const FILES: &str = "\
+0 0 1
+1 2 3
+63 126 127";
+
+// The bytes of a file, and the form, the stamp, the first place and the end of the body that it shows.
+const SHOWN: &str = r#"= none
+=%01 none
+=%01%00%00%00%00%00%00%00%01%00%00%00 none
+=%01%00%00%00%00%00%00%00%01%00%00%00%00 one 1 13 13
+=%01%00%00%00%00%00%00%00%01%00%00%00%03abc one 1 13 16
+=%01%00%00%00%00%00%00%00%01%00%00%00%03abcde one 1 13 16
+=%01%00%00%00%00%00%00%00%01%00%00%00%04abc none
+=%00%00%00%00%00%00%00%00%01%00%00%00%03abc none
+=%02%00%00%00%00%00%00%00%01%00%00%00%03abc none
+=%FF%00%00%00%00%00%00%00%01%00%00%00%03abc none
+=%01%FF%FF%FF%FF%FF%FF%FF%FF%00%00%00%1Dfile:///a%20{"typeId":""}%0Ahello one 18446744073709551615 13 42
+=%02%00%00%00%00%00%00%00%01%00%00%00%1Dfile:///a%20{"typeId":""}%0Ahello none
+=%01%00%00%00%00%00%00%00%01%FF%FF%FF%FF%00%00%00%1Dfile:///a%20{"typeId":""}%0Ahello two 1 17 46
+=%01%00%00%00%00%00%00%00%01%FF%FF%FF%FF%00%00%00%11r%20{"typeId":"n"}%0A two 1 17 34
+=%02%00%00%00%00%00%00%00%01%FF%FF%FF%FF%00%00%00%11r%20{"typeId":"n"}%0A none
+=%01%00%00%00%00%00%00%00%01%FF%FF%FF%FF%00%00%00 none
+=%01%00%00%00%00%00%00%00%01%FF%FF%FF%FF%00%00%00%01 none
+=%01%00%00%00%00%00%00%00%01%FF%FF%FF%FF%FF%FF%FF%FFabc none
+=%01%00%00%00%00%00%00%00%01%FF%FF%FF%FE%00%00%00%01a none"#;
+
+// The same for files of 534,400 bytes that begin so.
+const LONG: &str = "\
+=%01%00%00%00%00%00%00%00%07%00%04%27%10 one 7 13 272157
+=%01%00%00%00%00%00%00%00%07%00%04%27%11 none
+=%01%00%00%00%00%00%00%00%07%FF%FF%FF%FF%00%08%27%10 two 7 17 534305
+=%01%00%00%00%00%00%00%00%07%FF%FF%FF%FF%00%08%27%11 none";
+
+fn place(mut row: Row) -> Option<Shown> {
+    let form = match row.field() {
+        "one" => SlotForm::One,
+        "two" => SlotForm::Two,
+        _ => return None,
+    };
+    let stamp = row.number()?;
+    let start = row.number()? as usize;
+    let end = row.number()? as usize;
+    Some(Shown {
+        form,
+        stamp,
+        start,
+        end,
+    })
+}
+
+fn is_shown(alloc: Global, mut row: Row) -> Result<bool, Fail> {
+    let bytes = row.bytes(alloc)?;
+    Ok(shown(&bytes) == place(row))
+}
+
+fn is_shown_of_long(alloc: Global, mut row: Row) -> Result<bool, Fail> {
+    let mut bytes = row.bytes(alloc)?;
+    bytes.resize(534_400, b'x')?;
+    Ok(shown(&bytes) == place(row))
+}
+
+fn has_files(mut row: Row) -> bool {
+    let pair = PairNo::new((row.number().unwrap_or(0) % 64) as u32);
+    let a = u64::from(slot_file(pair, Side::A).number());
+    let b = u64::from(slot_file(pair, Side::B).number());
+    row.number() == Some(a) && row.number() == Some(b)
 }
 
 #[test]
-fn what_files_of_form_two_show(rt: HostRuntime) {
-    for (bytes, found) in [
-        (
-            b"\x01\0\0\0\0\0\0\0\x01\xFF\xFF\xFF\xFF\0\0\0\x11r {\"typeId\":\"n\"}\n".as_slice(),
-            place(SlotForm::Two, 1, 17, 34),
-        ),
-        (
-            b"\x02\0\0\0\0\0\0\0\x01\xFF\xFF\xFF\xFF\0\0\0\x11r {\"typeId\":\"n\"}\n",
-            None,
-        ),
-        (b"\x01\0\0\0\0\0\0\0\x01\xFF\xFF\xFF\xFF\0\0\0", None),
-        (b"\x01\0\0\0\0\0\0\0\x01\xFF\xFF\xFF\xFF\0\0\0\x01", None),
-        (
-            b"\x01\0\0\0\0\0\0\0\x01\xFF\xFF\xFF\xFF\xFF\xFF\xFF\xFFabc",
-            None,
-        ),
-        (b"\x01\0\0\0\0\0\0\0\x01\xFF\xFF\xFF\xFE\0\0\0\x01a", None),
-    ] {
-        assert_eq!(rt; shown(bytes), found, "{bytes:?}");
+fn a_file_shows_its_body(rt: HostRuntime) -> Result<(), Fail> {
+    for line in SHOWN.lines() {
+        assert!(rt; is_shown(rt.alloc(), Row::new(line))?, "{line}");
     }
-}
-
-#[test]
-fn bodies_at_their_limits(rt: HostRuntime) -> Result<(), Fail> {
-    for (form, header, found) in [
-        (
-            SlotForm::One,
-            b"\x01\0\0\0\0\0\0\0\x07\0\x04\x27\x10".as_slice(),
-            place(SlotForm::One, 7, 13, 272_157),
-        ),
-        (SlotForm::One, b"\x01\0\0\0\0\0\0\0\x07\0\x04\x27\x11", None),
-        (
-            SlotForm::Two,
-            b"\x01\0\0\0\0\0\0\0\x07\xFF\xFF\xFF\xFF\0\x08\x27\x10",
-            place(SlotForm::Two, 7, 17, 534_305),
-        ),
-        (
-            SlotForm::Two,
-            b"\x01\0\0\0\0\0\0\0\x07\xFF\xFF\xFF\xFF\0\x08\x27\x11",
-            None,
-        ),
-    ] {
-        let mut file = Vec::from_slice(rt.alloc(), header)?;
-        file.resize(534_400, b'x')?;
-        assert_eq!(rt; shown(&file), found, "{form:?}");
+    for line in LONG.lines() {
+        assert!(rt; is_shown_of_long(rt.alloc(), Row::new(line))?, "{line}");
+    }
+    for line in FILES.lines() {
+        assert!(rt; has_files(Row::new(line)), "{line}");
     }
     Ok(())
 }

@@ -1,62 +1,15 @@
 ghost use Rattle.std.specs.Prelude.{◌≡◌, length, IfOk};
 
-use hx_vault::{PairUse, Vault, barrier, scan};
+use crate::tables::Row;
 use hx_disk::{Disk, DiskFailed, FileNo};
 use hx_etag::Stat;
 use hx_events::{PairFound, PairNo, Side};
 use hx_memdisk::{MemDisk, Plan};
-use hx_slots::{RawPair, close_gate, frame, open_gate, put_block, shown, slot_file};
+use hx_restore::restored;
+use hx_slots::{frame, slot_file};
+use hx_vault::{PairUse, Vault, barrier, scan};
 use std::alloc::{AllocError, Global};
-use std::process::Abort;
 use std::test::Fail;
-
-// A disk on which side B of pair 1 shows a body, and side A has a closed gate.
-fn written(alloc: Global, stamp: u64) -> Result<MemDisk, Fail> {
-    let plan = Plan {
-        fails: Vec::new(alloc),
-        fuse: None,
-    };
-    let mut disk = MemDisk::new(alloc, plan)?;
-    let frame = frame(alloc, stamp, b"no record")?;
-    let b = slot_file(PairNo::new(1), Side::B);
-    let a = slot_file(PairNo::new(1), Side::A);
-    disk.reserve(b, 1, 2)?;
-    close_gate(&mut disk, b)?;
-    disk.reserve(b, 100, 2)?;
-    put_block(&mut disk, b, 1, &frame)?;
-    disk.reserve(b, 1, 2)?;
-    open_gate(&mut disk, b)?;
-    disk.reserve(a, 1, 2)?;
-    close_gate(&mut disk, a)?;
-    Ok(disk)
-}
-
-#[test]
-fn a_vault_is_read_and_its_pairs_are_adopted(rt: HostRuntime) -> Result<(), Fail> {
-    let alloc = rt.alloc();
-    let mut disk = written(alloc, 7)?;
-    disk.reserve(FileNo::new(0), 0, 128)?;
-    barrier(&mut disk)?;
-    let (mut vault, raws) = scan(alloc, &mut disk)?;
-    assert_eq!(rt; raws[1].a.as_slice(), b"\0".as_slice());
-    assert_eq!(rt; raws[1].b.as_slice().len(), 26);
-    assert_eq!(rt; raws[63].b.as_slice().len(), 0);
-    assert_eq!(rt; vault.stamp(), 7);
-    assert!(rt; !vault.is_spent());
-    let mut found = Vec::new(alloc);
-    for number in 0..64u32 {
-        found.push(match number {
-            0 => PairFound::Twin(PairNo::new(9)),
-            1 => PairFound::Damaged,
-            _ => PairFound::Empty,
-        })?;
-    }
-    assert_eq!(rt; found.len(), 64);
-    vault.adopt(&found);
-    let free = vault.free().unwrap_or(PairNo::new(63));
-    assert_eq!(rt; free.number(), 2);
-    Ok(())
-}
 
 // A disk in memory that tells nothing, so that a test may go through the stages without saying what the files hold.
 #[derive(Drop)]
@@ -140,121 +93,281 @@ impl Disk for Untold {
     }
 }
 
-// An empty disk whose calls fail after so many, and its vault.
-fn opened(alloc: Global, fuse: u64) -> Result<(Untold, Vault), Fail>
-    ensures { IfOk result (λ r. length r.1.pairs ≡ 64) }
-{
-    let plan = Plan {
+fn memory(alloc: Global, fails: Option<u64>, fuse: Option<u64>) -> Result<Untold, Fail> {
+    let mut plan = Plan {
         fails: Vec::new(alloc),
-        fuse: Some(fuse),
+        fuse,
     };
-    let mut disk = Untold {
-        disk: MemDisk::new(alloc, plan)?,
-    };
-    disk.reserve(FileNo::new(0), 0, 128)?;
-    barrier(&mut disk)?;
-    let (vault, _) = scan(alloc, &mut disk)?;
-    Ok((disk, vault))
+    if let Some(call) = fails {
+        plan.fails.push(call)?;
+    }
+    let disk = MemDisk::new(alloc, plan)?;
+    Ok(Untold { disk })
 }
 
-// Whether a backup of this body was completed.
-fn back_up(
-    rt: &impl Abort,
+// Writes the bytes of an escaped text into a file of a side of a pair.
+fn plant(
     alloc: Global,
     disk: &mut Untold,
-    vault: &mut Vault,
     pair: PairNo,
-    body: &[u8],
-) -> Result<bool, Fail>
-    requires { length vault.old.pairs ≡ 64 }
-    ensures { length vault.new.pairs ≡ 64 }
+    side: Side,
+    text: &str,
+) -> Result<(), Fail> {
+    let file = slot_file(pair, side);
+    let bytes = Row::new(text).bytes(alloc)?;
+    disk.reserve(file, bytes.len() as u64, 2)?;
+    disk.write_at(file, 0, &bytes)?;
+    disk.sync(file)?;
+    Ok(())
+}
+
+// Slot files with the stamp 1 and the content hello, with the stamp 2 and the content world behind an open and behind a closed gate, and
+// with the stamp 7 and no record.
+const OLDER: &str = r#"=%01%00%00%00%00%00%00%00%01%00%00%00%1Dfile:///a%20{"typeId":""}%0Ahello"#;
+
+const NEWER: &str = r#"=%01%00%00%00%00%00%00%00%02%00%00%00%1Dfile:///a%20{"typeId":""}%0Aworld"#;
+
+const CLOSED: &str = r#"=%00%00%00%00%00%00%00%00%02%00%00%00%1Dfile:///a%20{"typeId":""}%0Aworld"#;
+
+const SPOILT: &str = "=%01%00%00%00%00%00%00%00%07%FF%FF%FF%FF%00%00%00%09no%20record";
+
+fn open_vault(alloc: Global, disk: &mut Untold) -> Result<(Vault, Vec<PairFound>), Fail>
+    ensures { IfOk result (λ r. length r.0.pairs ≡ 64) }
 {
-    assert!(rt; vault.use_of(pair) == PairUse::Taken && !vault.is_spent() && body.len() < 100);
+    disk.reserve(FileNo::new(0), 0, 128)?;
+    barrier(disk)?;
+    let (mut vault, raws) = scan(alloc, disk)?;
+    let found = restored(alloc, &raws)?;
+    if found.len() == 64 {
+        vault.adopt(&found);
+    }
+    Ok((vault, found))
+}
+
+#[test]
+fn a_vault_is_read_and_its_pairs_are_adopted(rt: HostRuntime) -> Result<(), Fail> {
+    let alloc = rt.alloc();
+    let mut disk = memory(alloc, None, None)?;
+    plant(alloc, &mut disk, PairNo::new(0), Side::B, OLDER)?;
+    plant(alloc, &mut disk, PairNo::new(1), Side::A, "=%00")?;
+    plant(alloc, &mut disk, PairNo::new(1), Side::B, SPOILT)?;
+    plant(alloc, &mut disk, PairNo::new(2), Side::A, OLDER)?;
+    let (vault, found) = open_vault(alloc, &mut disk)?;
+    assert!(rt; vault.stamp() == 7 && !vault.is_spent());
+    assert!(rt; found.len() == 64);
+    assert!(rt; matches!(&found[1], PairFound::Damaged));
+    assert!(rt; matches!(&found[2], PairFound::Twin(earlier) if earlier.number() == 0));
+    assert!(rt; vault.free().map(|pair| pair.number()) == Some(3));
+    Ok(())
+}
+
+// What a restart brings back of the first pair.
+fn word(found: &[PairFound]) -> &'static str {
+    match found.first() {
+        Some(PairFound::Found(backup, _)) => {
+            if backup.content.as_slice() == b"hello".as_slice() {
+                "older"
+            } else {
+                "newer"
+            }
+        }
+        Some(PairFound::Empty) => "nothing",
+        _ => "else",
+    }
+}
+
+// The calls of the disk before a stage: a write and a sync for each side, 128 syncs, 128 stats and two reads.
+const BEFORE: u64 = 262;
+
+// A stage, the gate of the newer side before it, the call that fails, counted from the first of the stage, what a restart brings back before
+// the stage, and after it and a crash: one of two.
+const STAGES: &str = "\
+discard open 0 newer nothing nothing
+discard open 1 newer newer newer
+discard open 2 newer newer newer
+discard open 3 newer newer nothing
+discard open 4 newer newer nothing
+open closed 0 older newer newer
+open closed 1 older newer older
+open closed 2 older newer older
+prepare open 0 newer newer newer
+prepare open 1 newer newer newer
+prepare open 2 newer newer newer";
+
+// A disk on which side A of the first pair shows the older backup, and side B has the newer one behind this gate.
+fn written(alloc: Global, gate: &str, fails: Option<u64>) -> Result<Untold, Fail> {
+    let newer = if gate == "open" { NEWER } else { CLOSED };
+    let mut disk = memory(alloc, fails, None)?;
+    plant(alloc, &mut disk, PairNo::new(0), Side::A, OLDER)?;
+    plant(alloc, &mut disk, PairNo::new(0), Side::B, newer)?;
+    Ok(disk)
+}
+
+fn prepare(vault: &mut Vault, disk: &mut Untold) -> Result<bool, Fail> {
+    let pair = PairNo::new(0);
+    if vault.is_spent() || vault.use_of(pair) != PairUse::Taken {
+        return Ok(false);
+    }
     vault.reserve(disk, pair, false, 1)?;
-    let Ok(()) = vault.prepare(disk, pair) else {
+    Ok(vault.prepare(disk, pair).is_ok())
+}
+
+fn open(vault: &mut Vault, disk: &mut Untold) -> Result<bool, Fail> {
+    let pair = PairNo::new(0);
+    if vault.use_of(pair) != PairUse::Taken {
         return Ok(false);
-    };
-    let frame = frame(alloc, vault.stamp(), body)?;
-    let end = 1 + frame.len() as u64;
-    assert!(rt; vault.use_of(pair) == PairUse::Taken && end < 200);
-    vault.reserve(disk, pair, false, end)?;
-    let Ok(()) = vault.body(disk, pair, &frame) else {
-        return Ok(false);
-    };
-    assert!(rt; vault.use_of(pair) == PairUse::Taken);
+    }
     vault.reserve(disk, pair, false, 1)?;
     Ok(vault.open_gate(disk, pair).is_ok())
 }
 
-fn discard(
-    rt: &impl Abort,
-    disk: &mut Untold,
-    vault: &mut Vault,
-    pair: PairNo,
-) -> Result<(), Fail> {
-    assert!(rt; vault.use_of(pair) == PairUse::Taken);
+fn fade(vault: &mut Vault, disk: &mut Untold) -> Result<bool, Fail> {
+    let pair = PairNo::new(0);
+    if vault.use_of(pair) != PairUse::Taken {
+        return Ok(false);
+    }
     vault.reserve(disk, pair, false, 1)?;
-    let Ok(()) = vault.fade(disk, pair) else {
+    Ok(vault.fade(disk, pair).is_ok())
+}
+
+fn discard(vault: &mut Vault, disk: &mut Untold) -> Result<(), Fail> {
+    let pair = PairNo::new(0);
+    if !fade(vault, disk)? || vault.use_of(pair) != PairUse::Taken {
         return Ok(());
-    };
-    assert!(rt; vault.use_of(pair) == PairUse::Taken);
+    }
     vault.reserve(disk, pair, true, 1)?;
     let _ = vault.drop_newest(disk, pair);
     Ok(())
 }
 
-// The stamp and the body that a side shows.
-fn showed(bytes: &[u8]) -> (u64, &[u8]) {
-    match shown(bytes) {
-        None => (0, &[]),
-        Some(shown) => (shown.stamp, &bytes[shown.start..shown.end]),
+fn stage(vault: &mut Vault, disk: &mut Untold, stage: &str) -> Result<bool, Fail> {
+    match stage {
+        "discard" => discard(vault, disk)?,
+        "open" => {
+            let _ = open(vault, disk)?;
+        }
+        _ => {
+            let _ = prepare(vault, disk)?;
+            return Ok(vault.stamp() == 3);
+        }
     }
+    Ok(true)
 }
 
-// The body with the greater stamp.
-fn newest(raw: &RawPair) -> &[u8] {
-    let (a, b) = (showed(raw.a.as_slice()), showed(raw.b.as_slice()));
-    if a.0 >= b.0 { a.1 } else { b.1 }
-}
-
-// Two backups and a discard, as far as they come, and then a crash.
-fn crashes(
-    rt: &impl Abort,
-    alloc: Global,
-    fuse: u64,
-    pick: u64,
-    wanted: &[u8],
-) -> Result<(), Fail> {
-    let pair = PairNo::new(0);
-    let (mut disk, mut vault) = opened(alloc, fuse)?;
-    assert!(rt; vault.use_of(pair) == PairUse::Free);
-    vault.take(pair);
-    if back_up(rt, alloc, &mut disk, &mut vault, pair, b"hello")?
-        && back_up(rt, alloc, &mut disk, &mut vault, pair, b"hello!")?
-    {
-        discard(rt, &mut disk, &mut vault, pair)?;
+// Whether a stage leaves what its line says, where a crash with this pick follows.
+fn leaves(alloc: Global, line: &str, pick: u64) -> Result<bool, Fail> {
+    let mut row = Row::new(line);
+    let name = row.field();
+    let gate = row.field();
+    let fails = match row.number() {
+        Some(call) if 0 < call && call < 10 => Some(BEFORE + call),
+        _ => None,
+    };
+    let mut disk = written(alloc, gate, fails)?;
+    let (mut vault, found) = open_vault(alloc, &mut disk)?;
+    if word(&found) != row.field() || !stage(&mut vault, &mut disk, name)? {
+        return Ok(false);
     }
     disk.crash(pick)?;
-    let (_, raws) = scan(alloc, &mut disk)?;
-    assert_eq!(rt; newest(&raws[0]), wanted, "{fuse} {pick}");
+    let (_, found) = open_vault(alloc, &mut disk)?;
+    let left = word(&found);
+    Ok(left == row.field() || left == row.field())
+}
+
+#[test]
+fn a_stage_that_fails_at_a_call_leaves_one_of_the_backups_before_or_after(
+    rt: HostRuntime,
+) -> Result<(), Fail> {
+    for line in STAGES.lines() {
+        for pick in 0..4 {
+            assert!(rt; leaves(rt.alloc(), line, pick)?, "{line}, pick {pick}");
+        }
+    }
     Ok(())
+}
+
+// The block that follows the gate, for this content.
+fn block(alloc: Global, stamp: u64, content: &[u8]) -> Result<Vec<u8>, Fail> {
+    let mut body = Vec::from_slice(alloc, b"file:///a {\"typeId\":\"\"}\n")?;
+    body.extend_from_slice(content)?;
+    if body.len() > 200 {
+        return Err(Fail::from("a long content"));
+    }
+    Ok(frame(alloc, stamp, &body)?)
+}
+
+// Whether a backup of this content was completed.
+fn back_up(
+    alloc: Global,
+    vault: &mut Vault,
+    disk: &mut Untold,
+    content: &[u8],
+) -> Result<bool, Fail>
+    requires { length vault.old.pairs ≡ 64 }
+    ensures { length vault.new.pairs ≡ 64 }
+{
+    let pair = PairNo::new(0);
+    if vault.is_spent() || vault.use_of(pair) != PairUse::Taken {
+        return Ok(false);
+    }
+    vault.reserve(disk, pair, false, 1)?;
+    let Ok(()) = vault.prepare(disk, pair) else {
+        return Ok(false);
+    };
+    let frame = block(alloc, vault.stamp(), content)?;
+    let end = 1 + frame.len() as u64;
+    if end > 300 {
+        return Ok(false);
+    }
+    vault.reserve(disk, pair, false, end)?;
+    let Ok(()) = vault.body(disk, pair, &frame) else {
+        return Ok(false);
+    };
+    vault.reserve(disk, pair, false, 1)?;
+    Ok(vault.open_gate(disk, pair).is_ok())
+}
+
+// The calls from one to another, and what a crash behind each of them leaves, one word for each pick. The first 256 calls open the vault.
+const CRASHES: &str = "\
+256 260 nothing nothing nothing nothing
+261 261 nothing older older nothing
+262 266 older older older older
+267 267 older newer newer older
+268 270 newer newer newer newer
+271 271 newer nothing nothing newer
+272 272 nothing nothing nothing nothing";
+
+// Two backups and a discard, as far as they come, and then a crash.
+fn left(alloc: Global, fuse: u64, pick: u64) -> Result<&'static str, Fail> {
+    let mut disk = memory(alloc, None, Some(fuse))?;
+    let (mut vault, _) = open_vault(alloc, &mut disk)?;
+    if vault.use_of(PairNo::new(0)) != PairUse::Free {
+        return Ok("no free pair");
+    }
+    vault.take(PairNo::new(0));
+    if back_up(alloc, &mut vault, &mut disk, b"hello")?
+        && back_up(alloc, &mut vault, &mut disk, b"world")?
+    {
+        discard(&mut vault, &mut disk)?;
+    }
+    disk.crash(pick)?;
+    let (_, found) = open_vault(alloc, &mut disk)?;
+    Ok(word(&found))
 }
 
 #[test]
 fn a_crash_at_any_call_shows_the_older_backup_or_the_newer(rt: HostRuntime) -> Result<(), Fail> {
-    let (none, old, new) = (b"".as_slice(), b"hello".as_slice(), b"hello!".as_slice());
-    for (first, last, wanted) in [
-        (256, 260, [none, none, none, none]),
-        (261, 261, [none, old, old, none]),
-        (262, 266, [old, old, old, old]),
-        (267, 267, [old, new, new, old]),
-        (268, 270, [new, new, new, new]),
-        (271, 271, [new, none, none, new]),
-        (272, 272, [none, none, none, none]),
-    ] {
-        for fuse in first..=last {
-            for (pick, body) in wanted.iter().enumerate() {
-                crashes(&rt, rt.alloc(), fuse, pick as u64, body)?;
+    for line in CRASHES.lines() {
+        let mut row = Row::new(line);
+        let first = row.number().unwrap_or(0);
+        let last = row.number().unwrap_or(0);
+        for pick in 0..4 {
+            let wanted = row.field();
+            for fuse in first..=last {
+                assert!(rt;
+                    left(rt.alloc(), fuse, pick)? == wanted,
+                    "{line}, {fuse}, pick {pick}"
+                );
             }
         }
     }

@@ -1,5 +1,5 @@
 use Rattle.std.proofs.Common.{◌≡◌, []}
-use Rattle.hx_passes.proofs.tests.four.Given as goal
+use Rattle.hx_tests_low.proofs.passes.four.Given as goal
 
 abbrev pub invariant-loop : goal.invariant-loop
 invariant-loop g l = record {

@@ -1,5 +1,5 @@
 use Rattle.std.proofs.Common.{◌≡◌, ◌%◌, length}
-use Rattle.hx_passes.proofs.tests.one_thread.Given as goal
+use Rattle.hx_tests_low.proofs.passes.one_thread.Given as goal
 
 -- nothing is due where there is an even number of entries
 abbrev pub ghosts-by_hand : goal.ghosts-by_hand
