@@ -1,0 +1,88 @@
+//! Texts of tests, and what is read from them.
+
+use hx_events::Outcome;
+use hx_script::{Trace, read_trace};
+use std::alloc::{AllocError, Global};
+use std::process::Abort;
+use std::test::Fail;
+
+/// The text up to the first of these marks, and what lies behind it.
+pub(crate) fn parted<'a>(text: &'a str, mark: &'static str) -> (&'a str, &'a str) {
+    match text.split_once(mark) {
+        None => (text, ""),
+        Some(parts) => parts,
+    }
+}
+
+pub(crate) fn number(text: &str) -> u64 {
+    match text.parse::<u64>() {
+        Ok(number) => number,
+        Err(_) => 0,
+    }
+}
+
+// Puts the text at the end, with 5,000 times `x` for its `~`, if it has one.
+fn put_wide(out: &mut String, text: &str) -> Result<(), AllocError> {
+    let (front, behind) = parted(text, "~");
+    out.push_str(front)?;
+    if front.len() < text.len() {
+        for _ in 0..5000 {
+            out.push('x')?;
+        }
+    }
+    out.push_str(behind)
+}
+
+/// Puts a line of a table at the end as one of a trace: with a tab for ` => `, and with its line feed.
+pub(crate) fn put_line(out: &mut String, line: &str) -> Result<(), AllocError> {
+    let (event, outcome) = parted(line, " => ");
+    put_wide(out, event)?;
+    if !outcome.is_empty() {
+        out.push('\t')?;
+        out.push_str(outcome)?;
+    }
+    out.push('\n')
+}
+
+/// What stands in a row of the table of traces before the trace, the trace's lines, and the notes behind it.
+pub(crate) fn row_parts(row: &str) -> (&str, &str, &str) {
+    let (head, rest) = parted(row, "hotexit trace 1\n");
+    let (lines, notes) = parted(rest, "\n> ");
+    (head, lines, notes)
+}
+
+/// The text of a trace from its lines in a table.
+pub(crate) fn trace_text(alloc: Global, lines: &str) -> Result<String, AllocError> {
+    let mut out = String::from_str(alloc, "hotexit trace 1\n")?;
+    for line in lines.lines() {
+        put_line(&mut out, line)?;
+    }
+    Ok(out)
+}
+
+pub(crate) fn read(alloc: Global, text: &str) -> Result<Trace, Fail> {
+    match read_trace(alloc, text.as_bytes()) {
+        Ok(trace) => Ok(trace),
+        Err(error) => Err(Fail::new(format_args!("{error} in {text}"))),
+    }
+}
+
+/// Whether a call of the device failed.
+pub(crate) fn is_fault(outcome: &Outcome) -> bool {
+    matches!(
+        outcome,
+        Outcome::Fault | Outcome::StageFault(_, _) | Outcome::CheckFault | Outcome::WriteFault(_)
+    )
+}
+
+/// Compares what was printed with a text, line by line.
+pub(crate) fn compare(rt: &impl Abort, printed: &[u8], wanted: &str) -> Result<(), Fail> {
+    let Ok(printed) = str::from_utf8(printed) else {
+        return Err(Fail::new("what was printed is no text"));
+    };
+    for (line, other) in printed.lines().zip(wanted.lines()) {
+        assert!(rt; line == other, "{line} is not {other} in {wanted}");
+    }
+    assert_eq!(rt; printed.len(), wanted.len(), "{printed}");
+    Ok(())
+}
