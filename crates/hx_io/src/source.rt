@@ -73,8 +73,8 @@ const PIECE: usize = 8192;
 
 /// Reads a source to its end. The bytes that it answers are exactly those that were given.
 ///
-/// Gives `TooLong` as soon as one byte more than `limit` has come, and then no more is taken. Where a read fails or
-/// memory runs out, what had come is lost. It ends with the first read that fails.
+/// Gives `TooLong` as soon as one byte more than `limit` has come, and then no more is taken; no memory is asked for that byte.
+/// Where a read fails or memory runs out, what had come is lost. It ends with the first read that fails.
 pub fn read_all<S: Source>(
     alloc: Global,
     source: &mut S,
@@ -82,6 +82,7 @@ pub fn read_all<S: Source>(
 ) -> Result<Vec<u8>, ReadAllError>
     ensures given { IfOk result (λ bytes. S.given source.new ≡ S.given source.old ++ bytes.items) }
     ensures limit { IfOk result (λ bytes. length bytes.items ≤ limit) }
+    ensures short { IsErrOf result ReadAllError.NoMemory → length (added (S.given source.old) (S.given source.new)) ≤ limit }
     ensures too_long { IsErrOf result ReadAllError.TooLong → length (added (S.given source.old) (S.given source.new)) ≡ limit + 1 }
 
     // At every end.
@@ -100,13 +101,16 @@ pub fn read_all<S: Source>(
 {
     let mut bytes = Vec::new(alloc);
     let mut piece = [0; PIECE];
-    'turns: while bytes.len() <= limit {
-        let want = (limit - bytes.len()).min(PIECE - 1) + 1;
+    'turns: loop {
+        let room = limit - bytes.len();
+        let want = room.min(PIECE - 1) + 1;
         let count = source.read(&mut piece[..want])?;
         if count == 0 {
             return Ok(bytes);
         }
+        if count > room {
+            return Err(ReadAllError::TooLong);
+        }
         bytes.extend_from_slice(&piece[..count])?;
     }
-    Err(ReadAllError::TooLong)
 }

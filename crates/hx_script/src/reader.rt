@@ -230,12 +230,13 @@ fn read_lines(alloc: Global, form: Form, bytes: &[u8]) -> Result<ScriptReader, S
 
 /// The script that the bytes read as for a command. `Bad` names the first bad line, counted from 1, with its first reason,
 /// exactly where the bytes are no script; `TooLong` has line 0 and comes exactly where they are more than 4,194,304.
-/// `NoMemory` may come in place of any answer.
+/// `NoMemory` may come in place of any answer but `TooLong`.
 #[tactic(auto, unfolding(crate::specs::Scripts::script_in))]
 pub fn read_script(alloc: Global, bytes: &[u8], form: Form) -> Result<Script, ScriptError>
     ensures ok { IfOk result (λ script. script_in form bytes.now ≡ Reads script) }
     ensures bad { (line : ℕ) (why : Why) → result ≡ Err (ScriptError.Bad line why) → script_in form bytes.now ≡ Refused line why }
     ensures well_made { IfOk result IsWellMade }
+    ensures short { result ≡ Err ScriptError.NoMemory → length bytes.now ≤ 4194304 }
 {
     if bytes.len() > SCRIPT_MAX {
         return Err(ScriptError::Bad(0, Why::TooLong));

@@ -448,12 +448,13 @@ fn read_lines(alloc: Global, bytes: &[u8]) -> Result<Trace, ScriptError>
 
 /// The trace that the bytes read as. `Bad` names the first bad line, counted from 1, with its first reason, exactly where the
 /// bytes are no trace; `TooLong` has line 0 and comes exactly where they are more than 67,108,864. `NoMemory` may come in
-/// place of any answer.
+/// place of any answer but `TooLong`.
 #[tactic(auto, unfolding(crate::specs::Traces::trace_in))]
 pub fn read_trace(alloc: Global, bytes: &[u8]) -> Result<Trace, ScriptError>
     ensures ok { IfOk result (λ trace. trace_in bytes.now ≡ Reads trace) }
     ensures bad { (line : ℕ) (why : Why) → result ≡ Err (ScriptError.Bad line why) → trace_in bytes.now ≡ Refused line why }
     ensures well_read { IfOk result (λ trace. All IsWellRead trace.lives) }
+    ensures short { result ≡ Err ScriptError.NoMemory → length bytes.now ≤ 67108864 }
 {
     if bytes.len() > TRACE_MAX {
         return Err(ScriptError::Bad(0, Why::TooLong));

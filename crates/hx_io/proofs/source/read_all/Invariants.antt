@@ -3,7 +3,7 @@ use Rattle.hx_io.proofs.source.read_all.Given as goal
 
 abbrev pub invariant-turns : goal.invariant-turns
 invariant-turns g l = record {
-  within : vec_len l.bytes ≤ l.limit + 1;
+  within : vec_len l.bytes ≤ l.limit;
   kept : g.S.Source.failures l.source ≡ g.S.Source.failures l.initial.source;
   given : g.S.Source.given l.source ≡ g.S.Source.given l.initial.source ++ l.bytes.items;
   whole : IsTrue g.S.Source.tells → g.S.Source.given l.source ++ g.S.Source.left l.source ≡ g.S.Source.given l.initial.source ++ g.S.Source.left l.initial.source;

@@ -1,4 +1,0 @@
-pub mod Words
-pub mod Whole
-pub mod Ends
-pub mod Runs

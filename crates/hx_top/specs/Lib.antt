@@ -1,0 +1,5 @@
+pub mod Words
+pub mod Whole
+pub mod Ends
+pub mod Runs
+pub mod Program
