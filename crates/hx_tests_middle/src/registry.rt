@@ -181,7 +181,7 @@ fn played(
     Ok(registry)
 }
 
-// The script that leads to a trace: its settings' slots, its entries, and what ends its lives.
+// The line of a script that leads to this line of a trace, if there is one.
 fn put_step(out: &mut String, line: &str) -> Result<(), AllocError> {
     let (word, rest) = parted(line, " ");
     match word {
@@ -192,6 +192,7 @@ fn put_step(out: &mut String, line: &str) -> Result<(), AllocError> {
     }
 }
 
+// The script that leads to a trace: its settings' slots, its entries, and what ends its lives.
 fn script_text(alloc: Global, head: &str, lines: &str) -> Result<String, AllocError> {
     let mut out = String::from_str(alloc, "hotexit 1\nfile file:///a\n")?;
     for line in head.lines() {
@@ -214,7 +215,7 @@ fn script(alloc: Global, text: &str) -> Result<Script, Fail>
     }
 }
 
-// The lives of the script, and what is read of the user's file behind them.
+// The lives of the script, and the disk behind them.
 fn lives_of(alloc: Global, head: &str, text: &str) -> Result<(Vec<Life>, MemDisk), Fail> {
     let script = script(alloc, text)?;
     let mut lives = Vec::new(alloc);
@@ -250,7 +251,8 @@ fn ends(rt: &impl Abort, alloc: Global, head: &str, lines: &str, note: &str) -> 
     let (word, rest) = parted(note, " ");
     if word == "file" {
         let (_, disk) = lives_of(alloc, head, &script_text(alloc, head, lines)?)?;
-        compare(rt, disk.bytes(FileNo::new(128)), rest)?;
+        let bytes = disk.bytes(FileNo::new(128));
+        assert!(rt; bytes == rest.as_bytes(), "{note} behind {lines}");
     }
     if word == "crash" {
         let (pick, pair) = parted(rest, " ");
@@ -258,7 +260,11 @@ fn ends(rt: &impl Abort, alloc: Global, head: &str, lines: &str, note: &str) -> 
         if !pair.is_empty() {
             put_line(&mut wanted, pair)?;
         }
-        compare(rt, &restored(alloc, head, lines, pick)?, &wanted)?;
+        let pairs = restored(alloc, head, lines, pick)?;
+        assert!(rt;
+            pairs.as_slice() == wanted.as_bytes(),
+            "{note} behind {lines}"
+        );
     }
     Ok(())
 }
