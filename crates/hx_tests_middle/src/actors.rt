@@ -5,6 +5,7 @@ ghost use Rattle.hx_actors.specs.Work.{fulls};
 ghost use Rattle.hx_actors.specs.Pieces.{IsNamed};
 
 use crate::founding::founded;
+use crate::words::says;
 use hx_actors::{Gate, OpenGate, PARTS, run_all, windows_at_work};
 use hx_disk::Disk;
 use hx_events::{Actor, Bytes, Command, Ended, Entry, Life, ResNo};
@@ -143,7 +144,7 @@ fn has_made(
     wanted: &str,
 ) -> Result<(), Fail> {
     let text = made(alloc, life.history.as_slice(), Actor::Window(window))?;
-    assert!(rt; text.as_str() == wanted, "{text} is not {wanted}");
+    says(rt, &text, wanted);
     Ok(())
 }
 

@@ -44,18 +44,25 @@ fn begun(alloc: Global) -> Result<Registry<MemDisk>, Fail>
     }
 }
 
+// The registry, if its life has two resources.
+fn of_two(registry: Registry<MemDisk>) -> Result<Registry<MemDisk>, Fail>
+    ensures same { IfOk result (λ r. r ≡ registry) }
+    ensures two { IfOk result (λ r. length r.course.names ≡ 2) }
+{
+    if registry.names().len() == 2 {
+        return Ok(registry);
+    }
+    let _ = registry.finish(Ended::Cut);
+    Err(Fail::new("a life of two resources has others"))
+}
+
 /// A hub with so many windows and parts.
 pub(crate) fn founded(alloc: Global, windows: u32, parts: u64) -> Result<Founded<MemDisk>, Fail>
     requires { 1 ≤ parts }
     ensures life { IfOk result (λ f. (f.registry.course.entries ≡ []) × (length f.registry.course.names ≡ 2)) }
     ensures counts { IfOk result (λ f. (f.windows ≡ windows) × (f.parts ≡ parts)) }
 {
-    let registry = begun(alloc)?;
-    if registry.names().len() != 2 {
-        let _ = registry.finish(Ended::Cut);
-        return Err(Fail::new("a life of two resources has others"));
-    }
-    match Founded::new(alloc, registry, windows, parts) {
+    match Founded::new(alloc, of_two(begun(alloc)?)?, windows, parts) {
         Ok(founded) => Ok(founded),
         Err(registry) => {
             let _ = registry.finish(Ended::Cut);

@@ -3,7 +3,7 @@ ghost use Rattle.hx_events.specs.Texts.{resource_of};
 ghost use Rattle.hx_hub.specs.Shared.{so_far};
 
 use crate::founding::founded;
-use crate::words::parted;
+use crate::words::{parted, says};
 use hx_disk::Disk;
 use hx_events::{Actor, Bytes, Command, Ended, Life, ResNo};
 use hx_hub::{Founded, Hub, Kind, Naming, Pass};
@@ -113,7 +113,7 @@ fn session<D: Disk, J: Naming, R: Wait + Abort>(
         };
         let (answer, front) = (answer.expect(rt, "there is memory"), looks(hub, closer));
         let text = format!(in alloc; "{answer} of {front}").expect(rt, "there is memory");
-        assert!(rt; text.as_str() == wanted, "{text} is not {wanted}");
+        says(rt, &text, wanted);
     }
     assert!(rt; hub.leave(rt, &mut window).is_ok());
     (window, writer, saver)
@@ -130,7 +130,7 @@ fn is_over<D: Disk, J: Naming, R: Wait + Abort>(
     ensures { pass.new.parts ≡ pass.old.parts }
 {
     let staged = works(rt, alloc, hub, pass, kind).expect(rt, "there is memory");
-    assert!(rt; staged.as_str() == "Over", "{staged}");
+    says(rt, &staged, "Over");
 }
 
 fn split<D: Disk, J: Naming>(hub: &Hub<D, J>, pass: &mut Pass<J>, actor: Actor) -> Pass<J>

@@ -230,7 +230,7 @@ fn comes_about(rt: &impl Abort, alloc: Global, head: &str, lines: &str) -> Resul
     let text = script_text(alloc, head, lines)?;
     let (lives, _) = lives_of(alloc, head, &text)?;
     assert!(rt; are_whole(&lives));
-    compare(rt, &out(alloc, &lives)?, &trace_text(alloc, lines)?)
+    compare(&out(alloc, &lives)?, &trace_text(alloc, lines)?)
 }
 
 // What the life after the first one restores, where that ends by a crash with this pick.
@@ -485,7 +485,7 @@ fn closes(rt: &impl Abort, alloc: Global, head: &str, lines: &str) -> Result<(),
     assert_eq!(rt; again, answer, "{lines}");
     lives.push(life)?;
     assert!(rt; are_whole(&lives));
-    compare(rt, &out(alloc, &lives)?, &trace_text(alloc, lines)?)
+    compare(&out(alloc, &lives)?, &trace_text(alloc, lines)?)
 }
 
 #[test]

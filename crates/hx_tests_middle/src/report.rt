@@ -20,7 +20,7 @@ fn lives_of(alloc: Global, text: &str) -> Result<Vec<Life>, Fail> {
 fn prints(rt: &impl Abort, alloc: Global, text: &str, wanted: &str) -> Result<(), Fail> {
     let lives = lives_of(alloc, text)?;
     assert!(rt; are_whole(&lives));
-    compare(rt, &out(alloc, &lives)?, wanted)
+    compare(&out(alloc, &lives)?, wanted)
 }
 
 #[test]
@@ -128,10 +128,10 @@ fn a_life_that_was_cut_has_a_tail_and_is_not_printed(rt: HostRuntime) -> Result<
     let mut lives = lives_of(alloc, &trace_text(alloc, SHARED)?)?;
     cut(&mut lives);
     assert!(rt; are_whole(&lives));
-    compare(&rt, &out(alloc, &lives)?, "hotexit trace 1\n")?;
+    compare(&out(alloc, &lives)?, "hotexit trace 1\n")?;
     for life in &lives {
         assert!(rt; is_whole(life));
-        compare(&rt, &tail(alloc, life)?, SHARED_TAIL)?;
+        compare(&tail(alloc, life)?, SHARED_TAIL)?;
     }
     assert_eq!(rt; lives.len(), 1);
     Ok(())
@@ -210,5 +210,5 @@ fn the_summary_of_a_made_script(rt: HostRuntime) -> Result<(), Fail> {
     let alloc = rt.alloc();
     let lives = lives_of(alloc, &trace_text(alloc, MADE)?)?;
     assert!(rt; are_whole(&lives));
-    compare(&rt, &summary(alloc, 1, &lives)?, SUMMARY)
+    compare(&summary(alloc, 1, &lives)?, SUMMARY)
 }

@@ -164,9 +164,9 @@ restart
 fn scripts_are_read_and_made_whole(rt: HostRuntime) -> Result<(), Fail> {
     let alloc = rt.alloc();
     let script = read_script(alloc, SCRIPT.as_bytes(), Form::Replay)?;
-    compare(&rt, &written(alloc, &script)?, SCRIPT)?;
+    compare(&written(alloc, &script)?, SCRIPT)?;
     let script = made(alloc, 1)?;
-    compare(&rt, &written(alloc, &script)?, MADE)
+    compare(&written(alloc, &script)?, MADE)
 }
 
 // Two lives, in each of which the first pair holds a backup.
@@ -216,5 +216,5 @@ fn traces_are_read_whole(rt: HostRuntime) -> Result<(), Fail> {
     for told in trace.lives.as_slice() {
         put_read(alloc, &mut out, told)?;
     }
-    compare(&rt, &out, READ)
+    compare(&out, READ)
 }

@@ -1,5 +1,8 @@
 //! Texts of tests, and what is read from them.
 
+ghost use Rattle.std.specs.Prelude.{All, IfOk};
+ghost use Rattle.hx_script.specs.Traces.{IsWellRead};
+
 use hx_events::Outcome;
 use hx_script::{Trace, read_trace};
 use std::alloc::{AllocError, Global};
@@ -60,7 +63,9 @@ pub(crate) fn trace_text(alloc: Global, lines: &str) -> Result<String, AllocErro
     Ok(out)
 }
 
-pub(crate) fn read(alloc: Global, text: &str) -> Result<Trace, Fail> {
+pub(crate) fn read(alloc: Global, text: &str) -> Result<Trace, Fail>
+    ensures { IfOk result (λ trace. All IsWellRead trace.lives) }
+{
     match read_trace(alloc, text.as_bytes()) {
         Ok(trace) => Ok(trace),
         Err(error) => Err(Fail::new(format_args!("{error} in {text}"))),
@@ -75,14 +80,38 @@ pub(crate) fn is_fault(outcome: &Outcome) -> bool {
     )
 }
 
-/// Compares what was printed with a text, line by line.
-pub(crate) fn compare(rt: &impl Abort, printed: &[u8], wanted: &str) -> Result<(), Fail> {
-    let Ok(printed) = str::from_utf8(printed) else {
-        return Err(Fail::new("what was printed is no text"));
-    };
-    for (line, other) in printed.lines().zip(wanted.lines()) {
-        assert!(rt; line == other, "{line} is not {other} in {wanted}");
+// What lies behind this line and its line feed, with which the text begins.
+fn behind<'a>(text: &'a [u8], line: &str) -> Option<&'a [u8]> {
+    let end = line.len();
+    match text.get(end) {
+        Some(b'\n') if &text[..end] == line.as_bytes() => Some(&text[end + 1..]),
+        _ => None,
     }
-    assert_eq!(rt; printed.len(), wanted.len(), "{printed}");
-    Ok(())
+}
+
+fn shown(bytes: &[u8]) -> &str {
+    match str::from_utf8(bytes) {
+        Ok(text) => text,
+        Err(_) => "no text",
+    }
+}
+
+/// Compares what was printed with a text, line by line.
+pub(crate) fn compare(printed: &[u8], wanted: &str) -> Result<(), Fail> {
+    let mut rest = printed;
+    for line in wanted.lines() {
+        match behind(rest, line) {
+            None => return Err(Fail::new(format_args!("not {line}, but {}", shown(rest)))),
+            Some(behind) => rest = behind,
+        }
+    }
+    if rest.is_empty() {
+        return Ok(());
+    }
+    Err(Fail::new(format_args!("behind the last line: {}", shown(rest))))
+}
+
+/// Compares two texts.
+pub(crate) fn says(rt: &impl Abort, text: &str, wanted: &str) {
+    assert!(rt; text == wanted, "{text} is not {wanted}");
 }
