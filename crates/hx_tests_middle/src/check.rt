@@ -40,18 +40,27 @@ fn judges(rt: &impl Abort, alloc: Global, trace: &str, note: &str) -> Result<(),
     Ok(())
 }
 
+fn is_legal(rt: &impl Abort, alloc: Global, text: &str) -> Result<(), Fail> {
+    assert_eq!(rt; verdict(alloc, text)?, Verdict::Legal, "{text}");
+    Ok(())
+}
+
+fn judges_row(rt: &impl Abort, alloc: Global, row: &str) -> Result<(), Fail> {
+    let (head, lines, notes) = row_parts(row);
+    let text = trace_text(alloc, lines)?;
+    if !head.starts_with("guarded") {
+        is_legal(rt, alloc, &text)?;
+    }
+    for note in notes.split("\n> ") {
+        judges(rt, alloc, &text, note)?;
+    }
+    Ok(())
+}
+
 #[test]
 fn traces_are_judged_to_the_first_line_that_is_not_legal(rt: HostRuntime) -> Result<(), Fail> {
-    let alloc = rt.alloc();
     for row in TRACES.split("\n\n") {
-        let (head, lines, notes) = row_parts(row);
-        let text = trace_text(alloc, lines)?;
-        if !head.starts_with("guarded") {
-            assert_eq!(rt; verdict(alloc, &text)?, Verdict::Legal, "{text}");
-        }
-        for note in notes.split("\n> ") {
-            judges(&rt, alloc, &text, note)?;
-        }
+        judges_row(&rt, rt.alloc(), row)?;
     }
     Ok(())
 }
@@ -101,7 +110,7 @@ pub(crate) fn crowded(alloc: Global, outcome: &str) -> Result<String, AllocError
 fn a_pair_is_missing_once_64_are_held(rt: HostRuntime) -> Result<(), Fail> {
     let alloc = rt.alloc();
     let right = crowded(alloc, "nopair")?;
-    assert_eq!(rt; verdict(alloc, &right)?, Verdict::Legal);
+    is_legal(&rt, alloc, &right)?;
     let wrong = crowded(alloc, "created 1")?;
     assert_eq!(rt; verdict(alloc, &wrong)?, Verdict::NotAt(132));
     Ok(())

@@ -253,13 +253,16 @@ fn plays_all(rt: &impl Abort, alloc: Global, text: &str, guarded: bool) -> Resul
     Ok(())
 }
 
+fn plays_row(rt: &impl Abort, alloc: Global, row: &str) -> Result<(), Fail> {
+    let (head, lines, _) = row_parts(row);
+    let text = trace_text(alloc, lines)?;
+    plays_all(rt, alloc, &text, head.starts_with("guarded"))
+}
+
 #[test]
 fn a_core_comes_to_the_outcomes_of_each_trace(rt: HostRuntime) -> Result<(), Fail> {
-    let alloc = rt.alloc();
     for row in TRACES.split("\n\n") {
-        let (head, lines, _) = row_parts(row);
-        let text = trace_text(alloc, lines)?;
-        plays_all(&rt, alloc, &text, head.starts_with("guarded"))?;
+        plays_row(&rt, rt.alloc(), row)?;
     }
-    plays_all(&rt, alloc, &crowded(alloc, "nopair")?, false)
+    plays_all(&rt, rt.alloc(), &crowded(rt.alloc(), "nopair")?, false)
 }

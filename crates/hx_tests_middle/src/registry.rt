@@ -269,16 +269,26 @@ fn ends(rt: &impl Abort, alloc: Global, head: &str, lines: &str, note: &str) -> 
     Ok(())
 }
 
+fn ends_all(
+    rt: &impl Abort,
+    alloc: Global,
+    head: &str,
+    lines: &str,
+    notes: &str,
+) -> Result<(), Fail> {
+    for note in notes.split("\n> ") {
+        ends(rt, alloc, head, lines, note)?;
+    }
+    Ok(())
+}
+
 #[test]
 fn traces_come_about_on_a_disk_and_leave_what_their_notes_say(rt: HostRuntime) -> Result<(), Fail> {
-    let alloc = rt.alloc();
     for row in TRACES.split("\n\n") {
         let (head, lines, notes) = row_parts(row);
         if !head.is_empty() {
-            comes_about(&rt, alloc, head, lines)?;
-            for note in notes.split("\n> ") {
-                ends(&rt, alloc, head, lines, note)?;
-            }
+            comes_about(&rt, rt.alloc(), head, lines)?;
+            ends_all(&rt, rt.alloc(), head, lines, notes)?;
         }
     }
     Ok(())
@@ -369,15 +379,29 @@ fn faults(alloc: Global, call: u64, lines: &str) -> Result<usize, Fail> {
     Ok(faults_of(&lives))
 }
 
+// Compares how many entries are faults where this call fails.
+fn has_faults(
+    rt: &impl Abort,
+    alloc: Global,
+    call: u64,
+    lines: &str,
+    wanted: usize,
+) -> Result<(), Fail> {
+    let faults = faults(alloc, call, lines)?;
+    assert!(rt; faults == wanted, "{faults} where {call} fails of {lines}");
+    Ok(())
+}
+
 #[test]
 fn each_call_that_fails_is_one_fault(rt: HostRuntime) -> Result<(), Fail> {
-    for (lines, last) in [(DISCARD, 272u64), (SAVE, 267)] {
-        for call in 257..=last {
-            assert_eq!(rt; faults(rt.alloc(), call, lines)?, 1, "{call} of {lines}");
-        }
-        assert_eq!(rt; faults(rt.alloc(), last + 1, lines)?, 0, "{lines}");
+    for call in 257..=272 {
+        has_faults(&rt, rt.alloc(), call, DISCARD, 1)?;
     }
-    Ok(())
+    has_faults(&rt, rt.alloc(), 273, DISCARD, 0)?;
+    for call in 257..=267 {
+        has_faults(&rt, rt.alloc(), call, SAVE, 1)?;
+    }
+    has_faults(&rt, rt.alloc(), 268, SAVE, 0)
 }
 
 // Lives that are ended: what the Closer does begins with `q`.
@@ -490,13 +514,10 @@ fn closes(rt: &impl Abort, alloc: Global, head: &str, lines: &str) -> Result<(),
 
 #[test]
 fn a_life_is_ended_by_its_due_stages_and_one_question(rt: HostRuntime) -> Result<(), Fail> {
-    let alloc = rt.alloc();
     for row in ENDS.split("\n\n") {
         let (head, lines, notes) = row_parts(row);
-        closes(&rt, alloc, head, lines)?;
-        for note in notes.split("\n> ") {
-            ends(&rt, alloc, head, lines, note)?;
-        }
+        closes(&rt, rt.alloc(), head, lines)?;
+        ends_all(&rt, rt.alloc(), head, lines, notes)?;
     }
     Ok(())
 }

@@ -16,20 +16,22 @@ fn lives_of(alloc: Global, text: &str) -> Result<Vec<Life>, Fail> {
     Ok(lives)
 }
 
-// Compares what is printed of the lives that are read from a text.
-fn prints(rt: &impl Abort, alloc: Global, text: &str, wanted: &str) -> Result<(), Fail> {
+// The lives that are read from a text are printed as that text.
+fn prints(rt: &impl Abort, alloc: Global, text: &str) -> Result<(), Fail> {
     let lives = lives_of(alloc, text)?;
     assert!(rt; are_whole(&lives));
-    compare(&out(alloc, &lives)?, wanted)
+    compare(&out(alloc, &lives)?, text)
+}
+
+fn prints_row(rt: &impl Abort, alloc: Global, lines: &str) -> Result<(), Fail> {
+    let text = trace_text(alloc, lines)?;
+    prints(rt, alloc, &text)
 }
 
 #[test]
 fn traces_are_printed_as_they_were_read(rt: HostRuntime) -> Result<(), Fail> {
-    let alloc = rt.alloc();
     for row in TRACES.split("\n\n") {
-        let (_, lines, _) = row_parts(row);
-        let text = trace_text(alloc, lines)?;
-        prints(&rt, alloc, &text, &text)?;
+        prints_row(&rt, rt.alloc(), row_parts(row).1)?;
     }
     Ok(())
 }
@@ -84,8 +86,7 @@ end crash 7";
 
 #[test]
 fn each_outcome_and_each_kind_of_pair_is_read_and_printed(rt: HostRuntime) -> Result<(), Fail> {
-    let text = trace_text(rt.alloc(), LINES)?;
-    prints(&rt, rt.alloc(), &text, &text)
+    prints_row(&rt, rt.alloc(), LINES)
 }
 
 // Requests to save that wait share an answer.
