@@ -174,7 +174,7 @@ has_answer None q (Some (Has a)) none agree asked = refl
 answered_if_quiet : (o : Opening) (es : List Entry) (c t : ℕ) → is_legal o es ≡ true → is_quiet o es ≡ true → c < length o.restored
     → is_some (standing t (save_steps (restored_at o c) (own c es))) ≡ true → is_some (answer t (save_steps (restored_at o c) (own c es))) ≡ true
 answered_if_quiet o es c t legal quiet below asked =
-    let idle = neither (is_some (vault_due o es c)) (is_some (save_due o es c)) (none_passes (λ k. is_some (vault_due o es k) || is_some (save_due o es k)) 0 (length o.restored) c quiet (omega arith) below) in
+    let idle = neither (is_some (vault_due o es c)) (is_some (save_due o es c)) (none_passes (λ k. is_some (vault_due o es k) || is_some (save_due o es k)) 0 (length o.restored) c quiet (omega arith) (omega (arith, below))) in
     has_answer (running (save_steps (restored_at o c) (own c es))) (queued (save_steps (restored_at o c) (own c es))) (standing t (save_steps (restored_at o c) (own c es)))
     (no_save_runs (restored_at o c) o.guarded (own c es) (no_work (vault_due o es c) idle.0) (no_work (save_due o es c) idle.1)) (agrees o es c t legal) asked
 
@@ -190,4 +190,4 @@ all_tickets_are_answered o (e ∷ es) c t legal quiet below asked =
     let before : own c (e ∷ es) ≡ own c es = leaves_others c e es (not_its_own c e.event (and_left (is_quit e.event) (is_quiet o es) quiet)) in
     ap (λ (ds : List Deed). is_some (answer t (save_steps (restored_at o c) ds))) before
     ∙ answered_if_quiet o es c t (and_right (is_row o es e.event e.outcome) (is_legal o es) legal) (and_right (is_quit e.event) (is_quiet o es) quiet) below
-      (sym (ap (λ (ds : List Deed). is_some (standing t (save_steps (restored_at o c) ds))) before) ∙ asked)
+    (sym (ap (λ (ds : List Deed). is_some (standing t (save_steps (restored_at o c) ds))) before) ∙ asked)

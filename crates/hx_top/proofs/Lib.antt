@@ -2,3 +2,4 @@ mod Settings
 mod TooLong
 mod Played
 mod Guarded
+mod Served

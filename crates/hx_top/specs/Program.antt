@@ -1,8 +1,9 @@
 -- What a run of the program has done, from its words and streams to its end.
-use Rattle.std.specs.Prelude.{◌≡◌, ◌≤◌, ◌×◌, ℕ, true, List, [], reverse, take, length, Option, Some, None}
+use Rattle.std.specs.Prelude.{◌≡◌, ℕ, true, List, reverse, Option, Some, None}
 use Rattle.hx_events.specs.declared.life.Life.{Life}
 use Rattle.hx_faults.specs.Faults.{Rose}
 use Rattle.hx_guarded_laws.specs.Lives.{HaveKept}
+use Rattle.hx_io.specs.Streams.{AddsFront, added}
 use Rattle.hx_lives.specs.Calls.{HasGoneOn}
 use Rattle.hx_lives.specs.Chained.{faults_of as faults_over}
 use Rattle.hx_memdisk.specs.declared.course.Plan.{Plan}
@@ -41,21 +42,21 @@ pub record IsNewDisk (words : List (List ℕ)) (disk : MemDisk) : Type 0 where
   pub unused : recorded disk ≡ 0
   pub no_fault : faults_of disk ≡ 0
 
--- The words were served on a new disk in memory: some lives were led on it, the oldest first, and what was printed is their text, or a
--- front of it where a write failed. They are the lives of the script that was read, or of its windows for a run's words, and guarded
--- ones have kept what guarded lives keep.
-pub record HasServed (words : List (List ℕ)) (input output : List ℕ) (end : End) : Type 0 where
+-- The words were served on a new disk in memory: some lives were led on it, the oldest first, and what was printed behind what stood
+-- there `before` is their text, or a front of it where a write failed. They are the lives of the windows of the script that was read
+-- for a run's words, and else of its steps, and guarded ones have kept what guarded lives keep.
+pub record HasServed (words : List (List ℕ)) (input before now : List ℕ) (end : End) : Type 0 where
   pub disk : MemDisk
   pub back : MemDisk
   pub lives : List Life
   pub new : IsNewDisk words disk
   pub runs : HasGoneOn recorded past_of faults_of disk back
-  pub done : end ≡ Done → output ≡ printed_by (run_in words) words input lives
-  pub front : end ≡ WriteFault → (count : ℕ) × (output ≡ take count (printed_by (run_in words) words input lives))
-  pub played : (task : Task) → order_in words ≡ Some (Play task) → IsOfInput end → HavePlayed pick_of true (past_of back) task input end 0 0 (recorded back) (faults_of back) (reverse lives)
-  pub ran : (order : RunOrder) → run_in words ≡ Some order → IsOfInput end → HasBeenRun pick_of true (past_of back) order.guarded input end 0 0 (recorded back) (faults_of back) (reverse lives)
+  pub done : end ≡ Done → added before now ≡ printed_by (run_in words) words input lives
+  pub front : end ≡ WriteFault → AddsFront (printed_by (run_in words) words input lives) before now
+  pub played : (task : Task) → run_in words ≡ None → order_in words ≡ Some (Play task) → IsOfInput end → HavePlayed pick_of true (past_of back) task input end (recorded disk) (faults_of disk) (recorded back) (faults_of back) (reverse lives)
+  pub ran : (order : RunOrder) → run_in words ≡ Some order → IsOfInput end → HasBeenRun pick_of true (past_of back) order.guarded input end (recorded disk) (faults_of disk) (recorded back) (faults_of back) (reverse lives)
   pub kept : HaveKept (past_of back) (recorded back) (reverse lives)
-  pub open_fault : end ≡ OpenFault → Rose (faults_over 0 (reverse lives)) (faults_of back)
+  pub open_fault : end ≡ OpenFault → Rose (faults_over (faults_of disk) (reverse lives)) (faults_of back)
 
 -- how a program ends whose words could not be had
 abbrev pub end_without : NoWords → End

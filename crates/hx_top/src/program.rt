@@ -48,6 +48,18 @@ fn chosen_disk(alloc: Global, words: &[String]) -> Result<MemDisk, AllocError>
     MemDisk::new(alloc, plan)
 }
 
+/// The end alone: a disk in memory and its lives are gone with the process.
+fn ended(finished: Finished<MemDisk>) -> End
+    ensures { result ≡ finished.end }
+{
+    let Finished {
+        end,
+        disk: _,
+        lives: _,
+    } = finished;
+    end
+}
+
 /// Serves the words on the disk that they name: `top_run` where they ask for a run, and `top` for all others.
 pub fn serve<R: Threads + Wait + Sync, S: Source, K: Sink>(
     rt: &R,
@@ -66,7 +78,7 @@ pub fn serve<R: Threads + Wait + Sync, S: Source, K: Sink>(
     // What was written, over which lives, on a disk that fails as the words plan it.
     ensures taken { Grows (K.taken sink.old) (K.taken sink.new) }
     ensures silent { IsSilent result → sink.new ≡ sink.old }
-    ensures served { result ≢ End.NoMemory → HasServed (texts_of words.now) (added (S.given source.old) (S.given source.new)) (added (K.taken sink.old) (K.taken sink.new)) result }
+    ensures served { result ≢ End.NoMemory → HasServed (texts_of words.now) (added (S.given source.old) (S.given source.new)) (K.taken sink.old) (K.taken sink.new) result }
 
     // Faults of the streams have their causes.
     ensures read_fault { result ≡ End.ReadFault → Rose (S.failures source.old) (S.failures source.new) }
@@ -76,16 +88,11 @@ pub fn serve<R: Threads + Wait + Sync, S: Source, K: Sink>(
     let Ok(disk) = chosen_disk(alloc, words) else {
         return End::NoMemory;
     };
-    let Finished {
-        end,
-        disk: _,
-        lives: _,
-    } = if is_run(words) {
-        top_run(rt, alloc, words, source, sink, disk, &OpenGate)
+    if is_run(words) {
+        ended(top_run(rt, alloc, words, source, sink, disk, &OpenGate))
     } else {
-        top(alloc, words, source, sink, disk)
-    };
-    end
+        ended(top(alloc, words, source, sink, disk))
+    }
 }
 
 /// The end of the words, or of there being none.
@@ -104,7 +111,7 @@ fn end_of<R: Threads + Wait + Sync, S: Source, K: Sink>(
     ensures of_input { IfOk words (λ ws. IsOfInput result → refusal_by (run_in (texts_of ws.items)) (texts_of ws.items) (added (S.given source.old) (S.given source.new)) ≡ None) }
     ensures taken { Grows (K.taken sink.old) (K.taken sink.new) }
     ensures silent { IsSilent result → sink.new ≡ sink.old }
-    ensures served { IfOk words (λ ws. result ≢ End.NoMemory → HasServed (texts_of ws.items) (added (S.given source.old) (S.given source.new)) (added (K.taken sink.old) (K.taken sink.new)) result) }
+    ensures served { IfOk words (λ ws. result ≢ End.NoMemory → HasServed (texts_of ws.items) (added (S.given source.old) (S.given source.new)) (K.taken sink.old) (K.taken sink.new) result) }
     ensures read_fault { result ≡ End.ReadFault → Rose (S.failures source.old) (S.failures source.new) }
     ensures write_fault { result ≡ End.WriteFault → Rose (K.failures sink.old) (K.failures sink.new) }
     ensures no_fault { result ≡ End.Done → (S.failures source.new ≡ S.failures source.old) × (K.failures sink.new ≡ K.failures sink.old) }
@@ -140,7 +147,7 @@ pub fn run_to_exit<R: Threads + Wait + Sync, S: Source, K: Sink, E: Sink>(
     ensures of_input { IfOk words (λ ws. IsOfInput result.end → refusal_by (run_in (texts_of ws.items)) (texts_of ws.items) (added (S.given source.old) (S.given source.new)) ≡ None) }
     ensures taken { Grows (K.taken sink.old) (K.taken sink.new) }
     ensures silent { IsSilent result.end → sink.new ≡ sink.old }
-    ensures served { IfOk words (λ ws. result.end ≢ End.NoMemory → HasServed (texts_of ws.items) (added (S.given source.old) (S.given source.new)) (added (K.taken sink.old) (K.taken sink.new)) result.end) }
+    ensures served { IfOk words (λ ws. result.end ≢ End.NoMemory → HasServed (texts_of ws.items) (added (S.given source.old) (S.given source.new)) (K.taken sink.old) (K.taken sink.new) result.end) }
     ensures read_fault { result.end ≡ End.ReadFault → Rose (S.failures source.old) (S.failures source.new) }
     ensures write_fault { result.end ≡ End.WriteFault → Rose (K.failures sink.old) (K.failures sink.new) }
     ensures no_fault { result.end ≡ End.Done → (S.failures source.new ≡ S.failures source.old) × (K.failures sink.new ≡ K.failures sink.old) }

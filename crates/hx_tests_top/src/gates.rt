@@ -1,11 +1,11 @@
-use hx_top::runs::top_run;
-use crate::hotexit::{Ran, parted, run, words_in};
-use hx_top::whole::{End, Finished};
-use hx_top::words::{DiskChoice, disk_words};
+//! Windows, writers and savers at once, under gates that hold them until others have worked.
+
+use crate::playing::{parted, run, text_of, words_in};
 use hx_actors::{Gate, OpenGate};
 use hx_events::Actor;
 use hx_io::{MemSink, MemSource};
 use hx_memdisk::MemDisk;
+use hx_top::{DiskChoice, End, Finished, disk_words, top_run};
 use std::alloc::{AllocError, Global};
 use std::process::Abort;
 use std::sync::Wait;
@@ -20,7 +20,7 @@ fn run_at_once<R: Threads + Wait + Sync, G: Gate + Sync>(
     words: &str,
     script: &str,
     gate: &G,
-) -> Result<Ran, AllocError> {
+) -> Result<(End, Vec<u8>), AllocError> {
     let words = words_in(alloc, words)?;
     let DiskChoice::Memory(plan) = disk_words(alloc, &words)?;
     let disk = MemDisk::new(alloc, plan)?;
@@ -29,70 +29,9 @@ fn run_at_once<R: Threads + Wait + Sync, G: Gate + Sync>(
     let Finished {
         end,
         disk: _,
-        lives,
+        lives: _,
     } = top_run(rt, alloc, &words, &mut source, &mut sink, disk, gate);
-    Ok(Ran {
-        end,
-        output: sink.bytes().to_vec(alloc)?,
-        lives: lives.len(),
-    })
-}
-
-const ONE_WINDOW: &str = "hotexit 1
-file file:///a
-w0 create file:///a
-w0 close file:///a
-";
-
-const ONE_WINDOW_LIFE: &str = "hotexit trace 1
-life 1
-name file:///a
-w0 create file:///a\tcreated 1
-w0 close file:///a\tclosed
-q quit\tquit
-end script
-";
-
-#[test]
-fn one_window(rt: HostRuntime) -> Result<(), Fail> {
-    let ran = run_at_once(&rt, rt.alloc(), "run", ONE_WINDOW, &OpenGate)?;
-    assert!(rt; ran.end == End::Done);
-    assert_eq!(rt; ran.output.as_slice(), ONE_WINDOW_LIFE.as_bytes());
-    assert_eq!(rt; ran.lives, 1);
-    Ok(())
-}
-
-// The words, the script with `;` for each line feed, and how the run ends.
-const ENDS: &str = "\
-replay < hotexit 1; => Usage
-run --workers < hotexit 1; => Usage
-run --workers 2 --guarded < hotexit 1; => Usage
-run --guarded --workers < hotexit 1; => Usage
-run --guarded --workers 5 < hotexit 1; => Usage
-run --guarded --guarded < hotexit 1; => Usage
-replay --guarded < hotexit 1; => Usage
-run --workers 0 < hotexit 1; => Usage
-run --workers 5 < hotexit 1; => Usage
-run --workers 02 < hotexit 1; => Usage
-run --fail 300 < hotexit 1; => Usage
---fail 256 run < hotexit 1; => OpenFault
---fail 256 run --guarded < hotexit 1; => OpenFault
-run < hotexit 1;file file:///a;b0 vault file:///a; => BadScript { line: 3, why: Place }
-run --workers 4 < hotexit 1;restart; => BadScript { line: 2, why: Place }";
-
-#[test]
-fn ends_of_runs(rt: HostRuntime) -> Result<(), Fail> {
-    let alloc = rt.alloc();
-    for row in ENDS.split('\n') {
-        let (run_of, end) = parted(row, " => ");
-        let (words, script) = parted(run_of, " < ");
-        let script = script.replace(alloc, ";", "\n")?;
-        let ran = run_at_once(&rt, alloc, words, &script, &OpenGate)?;
-        assert_eq!(rt; format!(in alloc; "{:?}", ran.end)?.as_str(), end, "{row}");
-        assert!(rt; ran.output.is_empty(), "{row}");
-        assert_eq!(rt; ran.lives, 0, "{row}");
-    }
-    Ok(())
+    Ok((end, sink.bytes().to_vec(alloc)?))
 }
 
 /// What a gate has seen, and whether it once waited in vain.
@@ -100,6 +39,7 @@ fn ends_of_runs(rt: HostRuntime) -> Result<(), Fail> {
 struct Seen {
     window: AtomicU64,
     writer: AtomicU64,
+    second_writer: AtomicU64,
     saver: AtomicU64,
     late: AtomicU64,
 }
@@ -108,6 +48,7 @@ fn nothing_seen() -> Seen {
     Seen {
         window: AtomicU64::new(0),
         writer: AtomicU64::new(0),
+        second_writer: AtomicU64::new(0),
         saver: AtomicU64::new(0),
         late: AtomicU64::new(0),
     }
@@ -169,8 +110,8 @@ w1 close file:///b
 #[test]
 fn a_window_works_beside_another(rt: HostRuntime) -> Result<(), Fail> {
     let gate = SecondFirst(nothing_seen());
-    let ran = run_at_once(&rt, rt.alloc(), "run", TWO_WINDOWS, &gate)?;
-    assert!(rt; ran.end == End::Done);
+    let (end, _) = run_at_once(&rt, rt.alloc(), "run", TWO_WINDOWS, &gate)?;
+    assert!(rt; end == End::Done);
     assert!(rt; !gate.0.was_late());
     Ok(())
 }
@@ -208,8 +149,44 @@ w0 edit file:///a 0 0 =b
 #[test]
 fn writers_and_savers_work_beside_a_window(rt: HostRuntime) -> Result<(), Fail> {
     let gate = WorkersFirst(nothing_seen());
-    let ran = run_at_once(&rt, rt.alloc(), "run", SAVED_BETWEEN, &gate)?;
-    assert!(rt; ran.end == End::Done);
+    let (end, _) = run_at_once(&rt, rt.alloc(), "run", SAVED_BETWEEN, &gate)?;
+    assert!(rt; end == End::Done);
+    assert!(rt; !gate.0.was_late());
+    Ok(())
+}
+
+/// Holds a window before its third command until two writers have done a stage, and each of these until the other has.
+#[derive(Drop)]
+struct BothWriters(Seen);
+
+impl Gate for BothWriters {
+    fn before(&self, _window: u32, command: u64) {
+        if command == 2 {
+            self.0.wait_for(&self.0.writer);
+            self.0.wait_for(&self.0.second_writer);
+        }
+    }
+
+    fn staged(&self, actor: Actor) {
+        match actor {
+            Actor::Writer(0) => {
+                self.0.writer.store(1, Ordering::SeqCst);
+                self.0.wait_for(&self.0.second_writer);
+            }
+            Actor::Writer(_) => {
+                self.0.second_writer.store(1, Ordering::SeqCst);
+                self.0.wait_for(&self.0.writer);
+            }
+            _ => {}
+        }
+    }
+}
+
+#[test]
+fn two_writers_work_beside_each_other(rt: HostRuntime) -> Result<(), Fail> {
+    let gate = BothWriters(nothing_seen());
+    let (end, _) = run_at_once(&rt, rt.alloc(), "run --workers 2", SAVED_BETWEEN, &gate)?;
+    assert!(rt; end == End::Done);
     assert!(rt; !gate.0.was_late());
     Ok(())
 }
@@ -286,18 +263,13 @@ fn replays_the_same<R: Threads + Wait + Abort + Sync>(
     let workers = 1 + seed % 4;
     let words = format!(in alloc; "--fail {fail} run{guarded} --workers {workers}")?;
     let script = some_commands(alloc, seed)?;
-    let ran = run_at_once(rt, alloc, &words, &script, &OpenGate)?;
-    assert!(rt; ran.end == End::Done);
-    let Ok(output) = str::from_utf8(&ran.output) else {
-        return Err(Fail::from("a trace is no text"));
-    };
+    let ran = run(rt, alloc, &words, script.as_bytes())?;
+    assert!(rt; ran.end == End::Done, "{words}");
+    let printed = printed_events(alloc, text_of(&ran.output)?)?;
     let words = format!(in alloc; "--fail {fail} replay{guarded}")?;
-    let again = run(alloc, &words, &printed_events(alloc, output)?)?;
-    assert!(rt; again.end == End::Done);
-    assert!(rt;
-        again.output.as_slice() == ran.output.as_slice(),
-        "{output}"
-    );
+    let again = run(rt, alloc, &words, printed.as_bytes())?;
+    assert!(rt; again.end == End::Done, "{words}");
+    assert!(rt; again.output.as_slice() == ran.output.as_slice(), "{words}");
     Ok(())
 }
 

@@ -1,9 +1,9 @@
 ghost use Rattle.std.specs.Prelude.{◌<◌};
 
-use hx_play::{PlantError, plant};
 use hx_disk::{Disk, FileNo};
 use hx_events::Bytes;
 use hx_memdisk::{MemDisk, Plan};
+use hx_play::{PlantError, plant};
 use hx_script::Plant;
 use std::alloc::{AllocError, Global};
 use std::test::Fail;
