@@ -115,7 +115,7 @@ fn lived<R: Threads + Wait + Abort + Sync, G: Gate + Sync>(
     requires { (1 ≤ workers) × (workers ≤ 4) }
 {
     let scripts = scripts(alloc, one, two)?;
-    let founded = founded(alloc, windows_at_work(&scripts), PARTS)?;
+    let founded = founded(rt, alloc, windows_at_work(&scripts), PARTS)?;
     let (registry, ended) = named(rt, alloc, founded, scripts, workers, gate);
     let nothing_due = registry.due_vault().is_none();
     let (_, life) = registry.finish(Ended::Cut);

@@ -8,6 +8,7 @@ use hx_hub::Founded;
 use hx_memdisk::{MemDisk, Plan};
 use hx_registry::{BeginError, Registry};
 use std::alloc::{AllocError, Global};
+use std::process::Abort;
 use std::test::Fail;
 
 fn with_name(alloc: Global, names: Names, text: &str) -> Result<Names, Fail>
@@ -44,25 +45,20 @@ fn begun(alloc: Global) -> Result<Registry<MemDisk>, Fail>
     }
 }
 
-// The registry, if its life has two resources.
-fn of_two(registry: Registry<MemDisk>) -> Result<Registry<MemDisk>, Fail>
-    ensures same { IfOk result (λ r. r ≡ registry) }
-    ensures two { IfOk result (λ r. length r.course.names ≡ 2) }
-{
-    if registry.names().len() == 2 {
-        return Ok(registry);
-    }
-    let _ = registry.finish(Ended::Cut);
-    Err(Fail::new("a life of two resources has others"))
-}
-
 /// A hub with so many windows and parts.
-pub(crate) fn founded(alloc: Global, windows: u32, parts: u64) -> Result<Founded<MemDisk>, Fail>
+pub(crate) fn founded(
+    rt: &impl Abort,
+    alloc: Global,
+    windows: u32,
+    parts: u64,
+) -> Result<Founded<MemDisk>, Fail>
     requires { 1 ≤ parts }
     ensures life { IfOk result (λ f. (f.registry.course.entries ≡ []) × (length f.registry.course.names ≡ 2)) }
     ensures counts { IfOk result (λ f. (f.windows ≡ windows) × (f.parts ≡ parts)) }
 {
-    match Founded::new(alloc, of_two(begun(alloc)?)?, windows, parts) {
+    let registry = begun(alloc)?;
+    assert!(rt; registry.names().len() == 2);
+    match Founded::new(alloc, registry, windows, parts) {
         Ok(founded) => Ok(founded),
         Err(registry) => {
             let _ = registry.finish(Ended::Cut);

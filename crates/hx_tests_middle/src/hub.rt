@@ -200,7 +200,7 @@ fn played<D: Disk, R: Wait + Abort>(rt: &R, alloc: Global, founded: Founded<D>) 
 #[test]
 fn each_pass_does_its_own_work_in_one_history(rt: HostRuntime) -> Result<(), Fail> {
     let alloc = rt.alloc();
-    let founded = founded(alloc, 1, 4)?;
+    let founded = founded(&rt, alloc, 1, 4)?;
     let (_, life) = played(&rt, alloc, founded);
     assert_eq!(rt; life.history.as_slice().len(), 10);
     Ok(())

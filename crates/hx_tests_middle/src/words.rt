@@ -80,35 +80,27 @@ pub(crate) fn is_fault(outcome: &Outcome) -> bool {
     )
 }
 
-// What lies behind this line and its line feed, with which the text begins.
-fn behind<'a>(text: &'a [u8], line: &str) -> Option<&'a [u8]> {
-    let end = line.len();
-    match text.get(end) {
-        Some(b'\n') if &text[..end] == line.as_bytes() => Some(&text[end + 1..]),
-        _ => None,
-    }
-}
-
-fn shown(bytes: &[u8]) -> &str {
-    match str::from_utf8(bytes) {
-        Ok(text) => text,
-        Err(_) => "no text",
-    }
-}
-
-/// Compares what was printed with a text, line by line.
-pub(crate) fn compare(printed: &[u8], wanted: &str) -> Result<(), Fail> {
-    let mut rest = printed;
-    for line in wanted.lines() {
-        match behind(rest, line) {
-            None => return Err(Fail::new(format_args!("not {line}, but {}", shown(rest)))),
-            Some(behind) => rest = behind,
+// The line, from 1, in which the bytes first differ from the text, or the last one that both have.
+fn first_difference(bytes: &[u8], text: &str) -> u64 {
+    let mut line = 1u64;
+    for (byte, other) in bytes.iter().zip(text.bytes()) {
+        if *byte != other {
+            return line;
+        }
+        if other == b'\n' {
+            line = line.saturating_add(1);
         }
     }
-    if rest.is_empty() {
+    line
+}
+
+/// Compares what was printed with a text.
+pub(crate) fn compare(printed: &[u8], wanted: &str) -> Result<(), Fail> {
+    if printed == wanted.as_bytes() {
         return Ok(());
     }
-    Err(Fail::new(format_args!("behind the last line: {}", shown(rest))))
+    let line = first_difference(printed, wanted);
+    Err(Fail::new(format_args!("line {line} is printed otherwise: {wanted}")))
 }
 
 /// Compares two texts.
