@@ -246,27 +246,43 @@ fn restored(alloc: Global, head: &str, lines: &str, pick: &str) -> Result<Vec<u8
     }
 }
 
+// Compares what is read of the user's file.
+fn leaves(rt: &impl Abort, alloc: Global, head: &str, lines: &str, text: &str) -> Result<(), Fail> {
+    let script = script_text(alloc, head, lines)?;
+    let (_, disk) = lives_of(alloc, head, &script)?;
+    let bytes = disk.bytes(FileNo::new(128));
+    assert!(rt; bytes == text.as_bytes(), "file {text} behind {lines}");
+    Ok(())
+}
+
+// Compares the pairs that another life restores.
+fn restores(
+    rt: &impl Abort,
+    alloc: Global,
+    head: &str,
+    lines: &str,
+    crash: &str,
+) -> Result<(), Fail> {
+    let (pick, pair) = parted(crash, " ");
+    let mut wanted = String::new(alloc);
+    if !pair.is_empty() {
+        put_line(&mut wanted, pair)?;
+    }
+    let pairs = restored(alloc, head, lines, pick)?;
+    assert!(rt;
+        pairs.as_slice() == wanted.as_bytes(),
+        "crash {crash} of {head} behind {lines}"
+    );
+    Ok(())
+}
+
 // Compares what a note says of the end of the first life.
 fn ends(rt: &impl Abort, alloc: Global, head: &str, lines: &str, note: &str) -> Result<(), Fail> {
-    let (word, rest) = parted(note, " ");
-    if word == "file" {
-        let (_, disk) = lives_of(alloc, head, &script_text(alloc, head, lines)?)?;
-        let bytes = disk.bytes(FileNo::new(128));
-        assert!(rt; bytes == rest.as_bytes(), "{note} behind {lines}");
+    match parted(note, " ") {
+        ("file", text) => leaves(rt, alloc, head, lines, text),
+        ("crash", crash) => restores(rt, alloc, head, lines, crash),
+        _ => Ok(()),
     }
-    if word == "crash" {
-        let (pick, pair) = parted(rest, " ");
-        let mut wanted = String::new(alloc);
-        if !pair.is_empty() {
-            put_line(&mut wanted, pair)?;
-        }
-        let pairs = restored(alloc, head, lines, pick)?;
-        assert!(rt;
-            pairs.as_slice() == wanted.as_bytes(),
-            "{note} behind {lines}"
-        );
-    }
-    Ok(())
 }
 
 fn ends_all(
@@ -320,21 +336,15 @@ const FUSES: &str = "\
 272 272: - - - -";
 
 // Compares what is restored where all calls behind this one fail.
-fn restores(rt: &impl Abort, alloc: Global, fuse: u64, contents: &str) -> Result<(), Fail> {
+fn restores_each(rt: &impl Abort, alloc: Global, fuse: u64, contents: &str) -> Result<(), Fail> {
     let head = format!(in alloc; "disk\nfuse {fuse}")?;
     let mut pick = 0u64;
     for content in contents.split(' ') {
-        let number = format!(in alloc; "{pick}")?;
-        let mut wanted = String::new(alloc);
-        if content != "-" {
-            wanted.push_str("pair 0 restored file:///a none =")?;
-            put_line(&mut wanted, content)?;
-        }
-        let pairs = restored(alloc, &head, DISCARD, &number)?;
-        assert!(rt;
-            pairs.as_slice() == wanted.as_bytes(),
-            "fuse {fuse} and pick {pick}"
-        );
+        let crash = match content {
+            "-" => format!(in alloc; "{pick}")?,
+            _ => format!(in alloc; "{pick} pair 0 restored file:///a none ={content}")?,
+        };
+        restores(rt, alloc, &head, DISCARD, &crash)?;
         pick = pick.saturating_add(1);
     }
     Ok(())
@@ -346,7 +356,7 @@ fn what_is_restored_behind_each_last_call_and_each_pick(rt: HostRuntime) -> Resu
         let (fuses, contents) = parted(row, ": ");
         let (first, last) = parted(fuses, " ");
         for fuse in number(first)..=number(last) {
-            restores(&rt, rt.alloc(), fuse, contents)?;
+            restores_each(&rt, rt.alloc(), fuse, contents)?;
         }
     }
     Ok(())
