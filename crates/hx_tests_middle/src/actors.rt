@@ -1,77 +1,24 @@
-ghost use Rattle.std.specs.Prelude.{◌≡◌, ◌<◌, ◌≤◌, ◌+◌, ◌*◌, [], All, length, map, vec_len, IfOk};
+ghost use Rattle.std.specs.Prelude.{◌≡◌, ◌<◌, ◌≤◌, ◌*◌, [], All, length, map, vec_len, IfOk};
 ghost use Rattle.hx_events.specs.Texts.{resource_of};
-ghost use Rattle.hx_opening_laws.specs.Names.{AreResources};
 ghost use Rattle.hx_hub.specs.Shared.{so_far};
 ghost use Rattle.hx_actors.specs.Work.{fulls};
 ghost use Rattle.hx_actors.specs.Pieces.{IsNamed};
 
+use crate::founding::founded;
+use crate::words::says;
 use hx_actors::{Gate, OpenGate, PARTS, run_all, windows_at_work};
 use hx_disk::Disk;
-use hx_events::{Actor, Bytes, Command, Ended, Entry, Life, Names, Outcome, ResNo, is_resource};
+use hx_events::{Actor, Bytes, Command, Ended, Entry, Life, ResNo};
 use hx_hub::{Founded, Naming};
-use hx_memdisk::{MemDisk, Plan};
-use hx_registry::{BeginError, Registry};
+use hx_registry::Registry;
 use std::alloc::{AllocError, Global};
 use std::marker::Brand;
 use std::process::Abort;
 use std::sync::Wait;
 use std::sync::atomic::{AtomicU64, Ordering};
-use std::test::*;
+use std::test::Fail;
 use std::thread;
 use std::thread::Threads;
-
-fn with_name(alloc: Global, names: Names, text: &str) -> Result<Names, Fail>
-    requires few { length names < 100 }
-    requires resources { AreResources names }
-    ensures few { IfOk result (λ more. length more ≤ length names + 1) }
-    ensures resources { IfOk result (λ more. AreResources more) }
-{
-    let mut names = names;
-    let text = text.as_bytes().to_vec(alloc)?;
-    if !is_resource(&text) || names.find(&text).is_some() {
-        return Err(Fail::from("this is no new resource"));
-    }
-    match names.add(text) {
-        Ok(_) => Ok(names),
-        Err(_) => Err(AllocError.into()),
-    }
-}
-
-fn begun(alloc: Global) -> Result<Registry<MemDisk>, Fail>
-    ensures { IfOk result (λ r. r.course.entries ≡ []) }
-{
-    let plan = Plan {
-        fails: Vec::new(alloc),
-        fuse: None,
-    };
-    let disk = MemDisk::new(alloc, plan)?;
-    let names = with_name(alloc, Names::new(alloc), "file:///a")?;
-    let names = with_name(alloc, names, "file:///b")?;
-    match Registry::begin(alloc, disk, &names) {
-        Ok(registry) => Ok(registry),
-        Err(BeginError::OpenFault(_)) => Err(Fail::from("the vault can't be opened")),
-        Err(BeginError::NoMemory(_)) => Err(AllocError.into()),
-    }
-}
-
-// A hub over a life of two resources that has just begun.
-fn founded(alloc: Global, windows: u32) -> Result<Founded<MemDisk>, Fail>
-    ensures life { IfOk result (λ f. (f.registry.course.entries ≡ []) × (length f.registry.course.names ≡ 2)) }
-    ensures counts { IfOk result (λ f. (f.windows ≡ windows) × (f.parts ≡ 17)) }
-{
-    let registry = begun(alloc)?;
-    if registry.names().len() != 2 {
-        let _ = registry.finish(Ended::Cut);
-        return Err(Fail::from("a life of two resources has others"));
-    }
-    match Founded::new(alloc, registry, windows, PARTS) {
-        Ok(founded) => Ok(founded),
-        Err(registry) => {
-            let _ = registry.finish(Ended::Cut);
-            Err(AllocError.into())
-        }
-    }
-}
 
 // A command on the resource by its name; all other words are edits.
 fn command(alloc: Global, word: &str, res: ResNo) -> Result<Command, AllocError>
@@ -94,19 +41,19 @@ fn command(alloc: Global, word: &str, res: ResNo) -> Result<Command, AllocError>
     })
 }
 
-fn script(alloc: Global, words: &[&str], res: ResNo) -> Result<Vec<Command>, AllocError>
+fn script(alloc: Global, words: &str, res: ResNo) -> Result<Vec<Command>, AllocError>
     requires { res < 2 }
     ensures { IfOk result (λ script. IsNamed 2 script.items) }
 {
     let mut script = Vec::new(alloc);
-    for word in words {
+    for word in words.split_whitespace() {
         script.push(command(alloc, word, res)?)?;
     }
     Ok(script)
 }
 
 // Two windows, each with a file of its own, and one without commands between them.
-fn scripts(alloc: Global, one: &[&str], two: &[&str]) -> Result<Vec<Vec<Command>>, AllocError>
+fn scripts(alloc: Global, one: &str, two: &str) -> Result<Vec<Vec<Command>>, AllocError>
     ensures few { IfOk result (λ scripts. vec_len scripts ≡ 3) }
     ensures named { IfOk result (λ scripts. All (IsNamed 2) (map (λ s. s.items) scripts.items)) }
 {
@@ -160,15 +107,15 @@ fn named<D: Disk + Send, R: Threads + Wait + Sync, G: Gate + Sync>(
 fn lived<R: Threads + Wait + Abort + Sync, G: Gate + Sync>(
     rt: &R,
     alloc: Global,
-    one: &[&str],
-    two: &[&str],
+    one: &str,
+    two: &str,
     workers: u32,
     gate: &G,
 ) -> Result<Life, Fail>
     requires { (1 ≤ workers) × (workers ≤ 4) }
 {
     let scripts = scripts(alloc, one, two)?;
-    let founded = founded(alloc, windows_at_work(&scripts))?;
+    let founded = founded(rt, alloc, windows_at_work(&scripts), PARTS)?;
     let (registry, ended) = named(rt, alloc, founded, scripts, workers, gate);
     let nothing_due = registry.due_vault().is_none();
     let (_, life) = registry.finish(Ended::Cut);
@@ -177,178 +124,132 @@ fn lived<R: Threads + Wait + Abort + Sync, G: Gate + Sync>(
     Ok(life)
 }
 
-// The outcomes of the actor's entries, in their order, are these.
-fn has_made(history: &[Entry], actor: Actor, outcomes: &[Outcome]) -> bool {
-    let mut rest = outcomes;
+// The outcomes of the actor's entries, in their order.
+fn made(alloc: Global, history: &[Entry], actor: Actor) -> Result<String, AllocError> {
+    let mut text = String::new(alloc);
     for entry in history {
         if entry.actor == actor {
-            let Some((first, behind)) = rest.split_first() else {
-                return false;
-            };
-            if *first != entry.outcome {
-                return false;
-            }
-            rest = behind;
+            let outcome = format!(in alloc; " {:?}", entry.outcome)?;
+            text.push_str(&outcome)?;
         }
     }
-    rest.is_empty()
+    Ok(text)
+}
+
+fn has_made(
+    rt: &impl Abort,
+    alloc: Global,
+    life: &Life,
+    window: u8,
+    wanted: &str,
+) -> Result<(), Fail> {
+    let text = made(alloc, life.history.as_slice(), Actor::Window(window))?;
+    says(rt, &text, wanted);
+    Ok(())
 }
 
 #[test]
 fn a_copy_without_edits_makes_no_work(rt: HostRuntime) -> Result<(), Fail> {
-    let life = lived(&rt, rt.alloc(), &["create", "close"], &[], 1, &OpenGate)?;
-    let history = life.history.as_slice();
-    assert_eq!(rt; history.len(), 2);
-    assert!(rt;
-        has_made(
-            history,
-            Actor::Window(0),
-            &[Outcome::Created(1), Outcome::Closed]
-        )
-    );
+    let alloc = rt.alloc();
+    let life = lived(&rt, alloc, "create close", "", 1, &OpenGate)?;
+    has_made(&rt, alloc, &life, 0, " Created(1) Closed")?;
+    assert_eq!(rt; life.history.as_slice().len(), 2);
     Ok(())
 }
 
 #[test]
 fn edits_are_backed_up_behind_all_windows(rt: HostRuntime) -> Result<(), Fail> {
-    let one = ["create", "edit", "edit"];
-    let two = ["create", "edit", "close", "close"];
-    let life = lived(&rt, rt.alloc(), &one, &two, 4, &OpenGate)?;
-    let history = life.history.as_slice();
-    let edited = [Outcome::Created(1), Outcome::Edited(2), Outcome::Edited(3)];
-    let closed = [
-        Outcome::Created(1),
-        Outcome::Edited(2),
-        Outcome::Closed,
-        Outcome::NotOpen,
-    ];
-    assert!(rt; has_made(history, Actor::Window(0), &edited));
-    assert!(rt; has_made(history, Actor::Window(1), &[]));
-    assert!(rt; has_made(history, Actor::Window(2), &closed));
-    Ok(())
+    let alloc = rt.alloc();
+    let two = "create edit close close";
+    let life = lived(&rt, alloc, "create edit edit", two, 4, &OpenGate)?;
+    has_made(&rt, alloc, &life, 0, " Created(1) Edited(2) Edited(3)")?;
+    has_made(&rt, alloc, &life, 1, "")?;
+    has_made(&rt, alloc, &life, 2, " Created(1) Edited(2) Closed NotOpen")
 }
 
 const TURNS: u32 = 10_000_000;
 
-// Waits until the flag is up, for so many turns at most.
-fn wait_for(flag: &AtomicU64, late: &AtomicU64) {
-    for _ in 0..TURNS {
-        if flag.load(Ordering::SeqCst) > 0 {
-            return;
-        }
-        thread::yield_now();
-    }
-    late.store(1, Ordering::SeqCst);
-}
-
-// Lets the first window begin once the last one is at its third command.
+// Which of the moments that the gate waits for have come, and the last one that was waited for in vain, from 1.
 #[derive(Drop)]
-struct LastFirst {
-    reached: AtomicU64,
+struct Moments {
+    third_command: AtomicU64,
+    first_writer: AtomicU64,
+    second_writer: AtomicU64,
+    saver: AtomicU64,
     late: AtomicU64,
 }
 
-impl Gate for LastFirst {
+impl Moments {
+    fn new() -> Moments {
+        Moments {
+            third_command: AtomicU64::new(0),
+            first_writer: AtomicU64::new(0),
+            second_writer: AtomicU64::new(0),
+            saver: AtomicU64::new(0),
+            late: AtomicU64::new(0),
+        }
+    }
+
+    // Waits for the moment, for so many turns at most.
+    fn wait_for(&self, moment: &AtomicU64, number: u64) {
+        for _ in 0..TURNS {
+            if moment.load(Ordering::SeqCst) > 0 {
+                return;
+            }
+            thread::yield_now();
+        }
+        self.late.store(number, Ordering::SeqCst);
+    }
+}
+
+// The first window begins once the last one is at its third command. It saves once a writer has done a stage, and goes on once a
+// saver has. Each writer goes on behind a stage once the other one has done one too.
+impl Gate for Moments {
     fn before(&self, window: u32, command: u64) {
-        if window == 2 && command == 2 {
-            self.reached.store(1, Ordering::SeqCst);
-        }
-        if window == 0 && command == 0 {
-            wait_for(&self.reached, &self.late);
-        }
-    }
-
-    fn staged(&self, _actor: Actor) {}
-}
-
-#[test]
-fn windows_work_beside_each_other(rt: HostRuntime) -> Result<(), Fail> {
-    let gate = LastFirst {
-        reached: AtomicU64::new(0),
-        late: AtomicU64::new(0),
-    };
-    let words = ["create", "close", "create", "close", "create", "close"];
-    let life = lived(&rt, rt.alloc(), &words, &words, 1, &gate)?;
-    assert_eq!(rt; gate.late.load(Ordering::SeqCst), 0);
-    assert_eq!(rt; life.history.as_slice().len(), 12);
-    Ok(())
-}
-
-// Lets a window save once a writer has done a stage, and go on once a saver has.
-#[derive(Drop)]
-struct WorkersFirst {
-    backed: AtomicU64,
-    saved: AtomicU64,
-    late: AtomicU64,
-}
-
-impl Gate for WorkersFirst {
-    fn before(&self, _window: u32, command: u64) {
-        match command {
-            2 => wait_for(&self.backed, &self.late),
-            3 => wait_for(&self.saved, &self.late),
+        match (window, command) {
+            (2, 2) => self.third_command.store(1, Ordering::SeqCst),
+            (0, 0) => self.wait_for(&self.third_command, 1),
+            (0, 2) => self.wait_for(&self.first_writer, 2),
+            (0, 3) => self.wait_for(&self.saver, 3),
             _ => {}
         }
     }
 
     fn staged(&self, actor: Actor) {
         match actor {
-            Actor::Writer(_) => self.backed.store(1, Ordering::SeqCst),
-            Actor::Saver(_) => self.saved.store(1, Ordering::SeqCst),
+            Actor::Writer(0) => {
+                self.first_writer.store(1, Ordering::SeqCst);
+                self.wait_for(&self.second_writer, 4);
+            }
+            Actor::Writer(_) => {
+                self.second_writer.store(1, Ordering::SeqCst);
+                self.wait_for(&self.first_writer, 5);
+            }
+            Actor::Saver(_) => self.saver.store(1, Ordering::SeqCst),
             _ => {}
         }
     }
 }
 
 #[test]
-fn workers_work_beside_windows(rt: HostRuntime) -> Result<(), Fail> {
-    let gate = WorkersFirst {
-        backed: AtomicU64::new(0),
-        saved: AtomicU64::new(0),
-        late: AtomicU64::new(0),
-    };
-    let words = ["create", "edit", "save", "edit"];
-    let life = lived(&rt, rt.alloc(), &words, &[], 1, &gate)?;
+fn windows_writers_and_savers_work_beside_each_other(rt: HostRuntime) -> Result<(), Fail> {
+    let alloc = rt.alloc();
+    let gate = Moments::new();
+    let two = "create close create close create close";
+    let life = lived(&rt, alloc, "create edit save edit", two, 2, &gate)?;
     assert_eq!(rt; gate.late.load(Ordering::SeqCst), 0);
-    let made = [
-        Outcome::Created(1),
-        Outcome::Edited(2),
-        Outcome::Started(2),
-        Outcome::Edited(3),
-    ];
-    assert!(rt; has_made(life.history.as_slice(), Actor::Window(0), &made));
-    Ok(())
-}
-
-// Lets a writer go on behind a stage once the other one has done one too.
-#[derive(Drop)]
-struct BothWriters {
-    first: AtomicU64,
-    second: AtomicU64,
-    late: AtomicU64,
-}
-
-impl Gate for BothWriters {
-    fn before(&self, _window: u32, _command: u64) {}
-
-    fn staged(&self, actor: Actor) {
-        let (mine, others) = match actor {
-            Actor::Writer(0) => (&self.first, &self.second),
-            _ => (&self.second, &self.first),
-        };
-        mine.store(1, Ordering::SeqCst);
-        wait_for(others, &self.late);
-    }
-}
-
-#[test]
-fn writers_work_beside_each_other(rt: HostRuntime) -> Result<(), Fail> {
-    let gate = BothWriters {
-        first: AtomicU64::new(0),
-        second: AtomicU64::new(0),
-        late: AtomicU64::new(0),
-    };
-    lived(&rt, rt.alloc(), &["create", "edit"], &[], 2, &gate)?;
-    assert_eq!(rt; gate.late.load(Ordering::SeqCst), 0);
-    Ok(())
+    has_made(
+        &rt,
+        alloc,
+        &life,
+        0,
+        " Created(1) Edited(2) Started(2) Edited(3)",
+    )?;
+    has_made(
+        &rt,
+        alloc,
+        &life,
+        2,
+        " Created(1) Closed Created(2) Closed Created(3) Closed",
+    )
 }

@@ -1,41 +1,25 @@
-ghost use Rattle.std.specs.Prelude.{◌≡◌, ◌<◌, true, length, IfOk};
-ghost use Rattle.hx_events.specs.Texts.{IsOutcomeOf};
+ghost use Rattle.std.specs.Prelude.{◌≡◌, ◌<◌, ◌≤◌, true, length, IfOk};
 ghost use Rattle.hx_opening_laws.specs.Names.{AreResources};
+ghost use Rattle.hx_script.specs.Scripts.{IsWellMade};
 
-use crate::registry_sessions::SESSIONS;
-use hx_registry::{BeginError, Registry};
-use hx_base::unescape;
+use crate::traces::TRACES;
+use crate::whole::are_whole;
+use crate::words::{compare, is_fault, number, parted, put_line, row_parts, trace_text};
 use hx_disk::{Disk, FileNo};
-use hx_etag::Stat;
-use hx_events::{
-    Actor, Backup, Bytes, Command, Ended, Event, Names, Outcome, PairFound, ResNo, is_resource,
-    outcome_text,
-};
+use hx_events::{Actor, Command, Ended, Event, Life, Names, Outcome, ResNo};
 use hx_memdisk::{MemDisk, Plan};
+use hx_registry::{BeginError, Registry};
+use hx_report::{out, pairs};
+use hx_script::{Form, Plant, Script, Step, read_script};
 use std::alloc::{AllocError, Global};
 use std::process::Abort;
 use std::test::Fail;
-
-// The text up to the first of these marks, and what lies behind it.
-fn parted<'a>(text: &'a str, mark: &'static str) -> (&'a str, &'a str) {
-    match text.split_once(mark) {
-        None => (text, ""),
-        Some(parts) => parts,
-    }
-}
-
-fn number(text: &str) -> u64 {
-    match text.parse::<u64>() {
-        Ok(number) => number,
-        Err(_) => 0,
-    }
-}
 
 // Which calls of the disk fail.
 fn plan(alloc: Global, head: &str) -> Result<Plan, AllocError> {
     let mut fails = Vec::new(alloc);
     let mut fuse = None;
-    for line in head.split('\n') {
+    for line in head.lines() {
         match parted(line, " ") {
             ("fail", call) => fails.push(number(call))?,
             ("fuse", call) => fuse = Some(number(call)),
@@ -45,109 +29,43 @@ fn plan(alloc: Global, head: &str) -> Result<Plan, AllocError> {
     Ok(Plan { fails, fuse })
 }
 
-fn put_slot(alloc: Global, disk: &mut MemDisk, file: u64, text: &str) -> Result<(), Fail> {
-    let Ok(bytes) = unescape(alloc, text.as_bytes()) else {
-        return Err(Fail::from("a slot is no text"));
-    };
-    if file < 128 && bytes.len() < 1000 {
-        let file = FileNo::new(file as u32);
+fn put_plant(disk: &mut MemDisk, plant: &Plant) -> Result<(), Fail> {
+    let (file, bytes) = (plant.file, plant.bytes.as_slice());
+    if file.number() < 128 && bytes.len() < 1000 {
         disk.reserve(file, bytes.len() as u64, 2)?;
-        disk.write_at(file, 0, &bytes)?;
+        disk.write_at(file, 0, bytes)?;
         disk.sync(file)?;
     }
     Ok(())
 }
 
-fn disk(alloc: Global, head: &str) -> Result<MemDisk, Fail> {
+fn disk(alloc: Global, head: &str, plants: &[Plant]) -> Result<MemDisk, Fail> {
     let mut disk = MemDisk::new(alloc, plan(alloc, head)?)?;
-    for line in head.split('\n') {
-        if let Some(slot) = line.strip_prefix("slot ") {
-            let (file, text) = parted(slot, " ");
-            put_slot(alloc, &mut disk, number(file), text)?;
-        }
+    for plant in plants {
+        put_plant(&mut disk, plant)?;
     }
     Ok(disk)
 }
 
-fn names(alloc: Global) -> Result<Names, Fail>
-    ensures { IfOk result (λ names. (length names ≡ 1) × AreResources names) }
+fn begun(
+    alloc: Global,
+    disk: MemDisk,
+    names: &Names,
+    guarded: bool,
+) -> Result<Registry<MemDisk>, Fail>
+    requires few { length names.now ≤ 192 }
+    requires resources { AreResources names.now }
 {
-    let mut names = Names::new(alloc);
-    let text = b"file:///a".to_vec(alloc)?;
-    if !is_resource(&text) {
-        return Err(Fail::from("this is no resource"));
-    }
-    match names.add(text) {
-        Ok(_) => Ok(names),
-        Err(_) => Err(AllocError.into()),
-    }
-}
-
-fn begun(alloc: Global, disk: MemDisk, guarded: bool) -> Result<Registry<MemDisk>, Fail> {
-    let names = names(alloc)?;
     let begun = if guarded {
-        Registry::begin_guarded(alloc, disk, &names)
+        Registry::begin_guarded(alloc, disk, names)
     } else {
-        Registry::begin(alloc, disk, &names)
+        Registry::begin(alloc, disk, names)
     };
     match begun {
         Ok(registry) => Ok(registry),
-        Err(BeginError::OpenFault(_)) => Err(Fail::from("the vault can't be opened")),
+        Err(BeginError::OpenFault(_)) => Err(Fail::new("the vault can't be opened")),
         Err(BeginError::NoMemory(_)) => Err(AllocError.into()),
     }
-}
-
-// The text, of which what stands before `*` is followed by `x` up to as many.
-fn content(alloc: Global, text: &str) -> Result<Vec<u8>, AllocError> {
-    let (front, count) = parted(text, "*");
-    let mut bytes = front.as_bytes().to_vec(alloc)?;
-    for _ in 1..number(count) {
-        bytes.push(b'x')?;
-    }
-    Ok(bytes)
-}
-
-fn edit(alloc: Global, res: ResNo, text: &str) -> Result<Command, AllocError> {
-    let (off, rest) = parted(text, " ");
-    let (del, text) = parted(rest, " ");
-    let text = Bytes::new(text.as_bytes().to_vec(alloc)?);
-    Ok(Command::Edit {
-        res,
-        off: number(off),
-        del: number(del),
-        text,
-    })
-}
-
-fn outside(alloc: Global, res: ResNo, text: &str) -> Result<Command, AllocError> {
-    let (mtime, text) = parted(text, " ");
-    Ok(Command::Outside {
-        res,
-        mtime: number(mtime),
-        text: Bytes::new(content(alloc, text)?),
-    })
-}
-
-// The event of a word with what follows it. A word that names none asks whether the program may end.
-fn event(alloc: Global, text: &str) -> Result<Event, AllocError> {
-    let res = ResNo::new(0);
-    let (word, rest) = parted(text, " ");
-    Ok(match word {
-        "open" => Event::Act(Command::Open(res)),
-        "create" => Event::Act(Command::Create(res)),
-        "edit" => Event::Act(edit(alloc, res, rest)?),
-        "undo" => Event::Act(Command::Undo(res)),
-        "save" => Event::Act(Command::Save {
-            res,
-            force: false,
-            over: rest == "over",
-        }),
-        "close" => Event::Act(Command::Close(res)),
-        "outside" => Event::Act(outside(alloc, res, rest)?),
-        "vault" => Event::Vault(res),
-        "flush" => Event::Flush(res),
-        _ => Event::Quit,
-    })
 }
 
 fn is_known(registry: &Registry<MemDisk>, res: ResNo) -> bool
@@ -156,77 +74,50 @@ fn is_known(registry: &Registry<MemDisk>, res: ResNo) -> bool
     (res.number() as usize) < registry.names().len()
 }
 
-fn command(registry: &mut Registry<MemDisk>, command: Command) -> Result<Outcome, Fail> {
+fn command(
+    registry: &mut Registry<MemDisk>,
+    actor: Actor,
+    command: Command,
+) -> Result<Outcome, Fail> {
     if !is_known(registry, command.resource()) {
-        return Err(Fail::from("a command of a resource that isn't there"));
+        return Err(Fail::new("a command of a resource that isn't there"));
     }
-    Ok(registry.command(Actor::Window(0), command)?)
+    Ok(registry.command(actor, command)?)
 }
 
-fn stage(registry: &mut Registry<MemDisk>, res: ResNo, saves: bool) -> Result<Outcome, Fail> {
+fn stage(
+    registry: &mut Registry<MemDisk>,
+    actor: Actor,
+    res: ResNo,
+    saves: bool,
+) -> Result<Outcome, Fail> {
     if !is_known(registry, res) {
-        return Err(Fail::from("a stage of a resource that isn't there"));
+        return Err(Fail::new("a stage of a resource that isn't there"));
     }
     if saves {
-        return Ok(registry.save_stage(Actor::Saver(0), res)?);
+        return Ok(registry.save_stage(actor, res)?);
     }
-    Ok(registry.vault_stage(Actor::Writer(0), res)?)
+    Ok(registry.vault_stage(actor, res)?)
 }
 
-fn done(registry: &mut Registry<MemDisk>, event: Event) -> Result<Outcome, Fail> {
+fn make(registry: &mut Registry<MemDisk>, actor: Actor, event: Event) -> Result<Outcome, Fail> {
     match event {
-        Event::Act(asked) => command(registry, asked),
-        Event::Vault(res) => stage(registry, res, false),
-        Event::Flush(res) => stage(registry, res, true),
+        Event::Act(asked) => command(registry, actor, asked),
+        Event::Vault(res) => stage(registry, actor, res, false),
+        Event::Flush(res) => stage(registry, actor, res, true),
         Event::Quit => Ok(registry.ask_quit()?),
     }
 }
 
-fn is_outcome_of(outcome: &Outcome, names: &Names) -> bool
-    ensures { result ≡ true → IsOutcomeOf names.now outcome.now }
-{
-    match outcome {
-        Outcome::Vetoed(res) => (res.number() as usize) < names.len(),
-        _ => true,
-    }
-}
-
-// Makes the event of a line, and compares the outcome's text where one is wanted.
-fn take(
-    rt: &impl Abort,
-    alloc: Global,
-    registry: &mut Registry<MemDisk>,
-    line: &str,
-) -> Result<(), Fail> {
-    let (text, wanted) = parted(line, " => ");
-    let event = event(alloc, text)?;
-    let outcome = done(registry, event)?;
-    if wanted.is_empty() {
-        return Ok(());
-    }
-    assert!(rt; is_outcome_of(&outcome, registry.names()));
-    let text = outcome_text(alloc, registry.names(), &outcome)?;
-    assert!(rt;
-        text.as_slice() == wanted.as_bytes(),
-        "{outcome:?} is not {wanted}"
-    );
-    Ok(())
-}
-
-// The registry after a line of a session, of which those at its end are no events.
-fn after(
-    rt: &impl Abort,
-    alloc: Global,
+// The registry after the event.
+fn made(
     registry: Registry<MemDisk>,
-    line: &str,
+    actor: Actor,
+    event: Event,
 ) -> Result<Registry<MemDisk>, Fail> {
     let mut registry = registry;
-    let taken = match parted(line, " ") {
-        ("", _) | ("file", _) | ("crash", _) => Ok(()),
-        _ => take(rt, alloc, &mut registry, line),
-    };
-    match taken {
-        Ok(()) => Ok(registry),
+    match make(&mut registry, actor, event) {
+        Ok(_) => Ok(registry),
         Err(failed) => {
             let _ = registry.finish(Ended::Cut);
             Err(failed)
@@ -234,139 +125,409 @@ fn after(
     }
 }
 
-// The session up to its end.
-pub(crate) fn played(
-    rt: &impl Abort,
+// Ends the life, and hands the disk out as it is then.
+fn ended(registry: Registry<MemDisk>, pick: Option<u64>) -> Result<(MemDisk, Life), AllocError> {
+    match pick {
+        None => Ok(registry.finish(Ended::Restart)),
+        Some(pick) => {
+            let (disk, life, crash) = registry.crash(pick);
+            crash?;
+            Ok((disk, life))
+        }
+    }
+}
+
+// The registry after a step. The life that the step ends, if it ends one, is put at the end of the lives.
+fn after(
     alloc: Global,
-    session: &str,
-) -> Result<Registry<MemDisk>, Fail> {
-    let (head, life) = parted(session, "life ");
-    let (kind, lines) = parted(life, "\n");
-    let mut registry = begun(alloc, disk(alloc, head)?, kind == "guarded")?;
-    for line in lines.split('\n') {
-        registry = after(rt, alloc, registry, line)?;
+    registry: Registry<MemDisk>,
+    step: Step,
+    script: (&Names, bool),
+    lives: &mut Vec<Life>,
+) -> Result<Registry<MemDisk>, Fail>
+    requires few { length script.0.now ≤ 192 }
+    requires resources { AreResources script.0.now }
+{
+    let pick = match step {
+        Step::Do(actor, event) => return made(registry, actor, event),
+        Step::Crash(pick) => Some(pick),
+        Step::Restart => None,
+    };
+    let (disk, life) = ended(registry, pick)?;
+    lives.push(life)?;
+    begun(alloc, disk, script.0, script.1)
+}
+
+// The last life of the script on its disk. The others are put at the end of the lives.
+fn played(
+    alloc: Global,
+    head: &str,
+    script: Script,
+    lives: &mut Vec<Life>,
+) -> Result<Registry<MemDisk>, Fail>
+    requires { IsWellMade script }
+{
+    let Script {
+        names,
+        slots,
+        steps,
+    } = script;
+    let guarded = head.starts_with("guarded");
+    let disk = disk(alloc, head, slots.as_slice())?;
+    let mut registry = begun(alloc, disk, &names, guarded)?;
+    for step in steps.into_vec() {
+        registry = after(alloc, registry, step, (&names, guarded), lives)?;
     }
     Ok(registry)
 }
 
-// The backup that the next life restores after a crash with this pick.
-fn crashed(alloc: Global, registry: Registry<MemDisk>, pick: u64) -> Result<Option<Backup>, Fail> {
-    let (disk, _, crash) = registry.crash(pick);
-    crash?;
-    let (_, life) = begun(alloc, disk, false)?.finish(Ended::Script);
-    for found in life.base.into_vec() {
-        if let PairFound::Found(backup, _) = found {
-            return Ok(Some(backup));
-        }
-    }
-    Ok(None)
-}
-
-// The time and the size that the text begins with, if it does.
-fn stat(text: &str) -> Option<Stat> {
-    let (mtime, rest) = parted(text, " ");
-    let (size, _) = parted(rest, " ");
-    match mtime.parse::<u64>() {
-        Ok(mtime) => Some(Stat {
-            mtime,
-            size: number(size),
-        }),
-        Err(_) => None,
+// The line of a script that leads to this line of a trace, if there is one.
+fn put_step(out: &mut String, line: &str) -> Result<(), AllocError> {
+    let (word, rest) = parted(line, " ");
+    match word {
+        "life" | "name" | "pair" | "copy" | "ticket" => Ok(()),
+        "end" if rest == "script" => Ok(()),
+        "end" => put_line(out, rest),
+        _ => put_line(out, parted(line, " => ").0),
     }
 }
 
-// Compares what is restored with a base and a content, or with nothing.
-fn comes_back(
-    rt: &impl Abort,
-    alloc: Global,
-    restored: &Option<Backup>,
-    wanted: &str,
-) -> Result<(), Fail> {
-    match restored {
-        None => assert!(rt; wanted.is_empty(), "nothing is not {wanted}"),
-        Some(backup) => {
-            let whole = content(alloc, wanted.rsplit(' ').next().unwrap_or(""))?;
-            assert_eq!(rt; backup.base, stat(wanted), "{wanted}");
-            assert!(rt; backup.content.as_slice() == whole.as_slice(), "{wanted}");
+// The script that leads to a trace: its settings' slots, its entries, and what ends its lives.
+fn script_text(alloc: Global, head: &str, lines: &str) -> Result<String, AllocError> {
+    let mut out = String::from_str(alloc, "hotexit 1\nfile file:///a\n")?;
+    for line in head.lines() {
+        if line.starts_with("slot ") {
+            put_line(&mut out, line)?;
         }
     }
+    for line in lines.lines() {
+        put_step(&mut out, line)?;
+    }
+    Ok(out)
+}
+
+fn script(alloc: Global, text: &str) -> Result<Script, Fail>
+    ensures { IfOk result IsWellMade }
+{
+    match read_script(alloc, text.as_bytes(), Form::Replay) {
+        Ok(script) => Ok(script),
+        Err(error) => Err(Fail::new(format_args!("{error} in {text}"))),
+    }
+}
+
+// The lives of the script, and the disk behind them.
+fn lives_of(alloc: Global, head: &str, text: &str) -> Result<(Vec<Life>, MemDisk), Fail> {
+    let script = script(alloc, text)?;
+    let mut lives = Vec::new(alloc);
+    let registry = played(alloc, head, script, &mut lives)?;
+    let (disk, life) = registry.finish(Ended::Script);
+    lives.push(life)?;
+    Ok((lives, disk))
+}
+
+// Plays what leads to the trace, and compares what is printed of its lives.
+fn comes_about(rt: &impl Abort, alloc: Global, head: &str, lines: &str) -> Result<(), Fail> {
+    let text = script_text(alloc, head, lines)?;
+    let (lives, _) = lives_of(alloc, head, &text)?;
+    assert!(rt; are_whole(&lives));
+    compare(&out(alloc, &lives)?, &trace_text(alloc, lines)?)
+}
+
+// What the life after the first one restores, where that ends by a crash with this pick.
+fn restored(alloc: Global, head: &str, lines: &str, pick: &str) -> Result<Vec<u8>, Fail> {
+    let (first, _) = parted(lines, "\nend ");
+    let mut text = script_text(alloc, head, first)?;
+    text.push_str("crash ")?;
+    put_line(&mut text, pick)?;
+    let (lives, _) = lives_of(alloc, head, &text)?;
+    match lives.last() {
+        None => Err(Fail::new("there is no life")),
+        Some(life) => Ok(pairs(alloc, life.base.as_slice())?),
+    }
+}
+
+// Compares what is read of the user's file.
+fn leaves(rt: &impl Abort, alloc: Global, head: &str, lines: &str, text: &str) -> Result<(), Fail> {
+    let script = script_text(alloc, head, lines)?;
+    let (_, disk) = lives_of(alloc, head, &script)?;
+    let bytes = disk.bytes(FileNo::new(128));
+    assert!(rt; bytes == text.as_bytes(), "file {text} behind {lines}");
     Ok(())
 }
 
-// Plays the session anew, and compares what its end leaves by this line.
-fn ends(rt: &impl Abort, alloc: Global, session: &str, line: &str) -> Result<(), Fail> {
-    if let Some(text) = line.strip_prefix("file ") {
-        let (disk, _) = played(rt, alloc, session)?.finish(Ended::Script);
-        assert_eq!(rt; disk.bytes(FileNo::new(128)), text.as_bytes(), "{line}");
+// Compares the pairs that another life restores.
+fn restores(
+    rt: &impl Abort,
+    alloc: Global,
+    head: &str,
+    lines: &str,
+    crash: &str,
+) -> Result<(), Fail> {
+    let (pick, pair) = parted(crash, " ");
+    let mut wanted = String::new(alloc);
+    if !pair.is_empty() {
+        put_line(&mut wanted, pair)?;
     }
-    if let Some(text) = line.strip_prefix("crash ") {
-        let (pick, wanted) = parted(text, " ");
-        let restored = crashed(alloc, played(rt, alloc, session)?, number(pick))?;
-        comes_back(rt, alloc, &restored, wanted)?;
+    let pairs = restored(alloc, head, lines, pick)?;
+    assert!(rt;
+        pairs.as_slice() == wanted.as_bytes(),
+        "crash {crash} of {head} behind {lines}"
+    );
+    Ok(())
+}
+
+// Compares what a note says of the end of the first life.
+fn ends(rt: &impl Abort, alloc: Global, head: &str, lines: &str, note: &str) -> Result<(), Fail> {
+    match parted(note, " ") {
+        ("file", text) => leaves(rt, alloc, head, lines, text),
+        ("crash", crash) => restores(rt, alloc, head, lines, crash),
+        _ => Ok(()),
+    }
+}
+
+fn ends_all(
+    rt: &impl Abort,
+    alloc: Global,
+    head: &str,
+    lines: &str,
+    notes: &str,
+) -> Result<(), Fail> {
+    for note in notes.split("\n> ") {
+        ends(rt, alloc, head, lines, note)?;
     }
     Ok(())
 }
 
 #[test]
-fn sessions_on_a_disk(rt: HostRuntime) -> Result<(), Fail> {
-    for session in SESSIONS.split("\n\n") {
-        for line in session.split('\n') {
-            ends(&rt, rt.alloc(), session, line)?;
+fn traces_come_about_on_a_disk_and_leave_what_their_notes_say(rt: HostRuntime) -> Result<(), Fail> {
+    for row in TRACES.split("\n\n") {
+        let (head, lines, notes) = row_parts(row);
+        if !head.is_empty() {
+            comes_about(&rt, rt.alloc(), head, lines)?;
+            ends_all(&rt, rt.alloc(), head, lines, notes)?;
         }
     }
     Ok(())
 }
 
 // Two backups of a copy, which is closed and discarded then.
-const DISCARD: &str = "life plain
-create
-edit 0 0 hello
-vault
-vault
-vault
-edit 5 0 !
-vault
-vault
-vault
-close
-vault
-vault";
+const DISCARD: &str = "\
+w0 create file:///a
+w0 edit file:///a 0 0 =hello
+b0 vault file:///a
+b0 vault file:///a
+b0 vault file:///a
+w0 edit file:///a 5 0 =!
+b0 vault file:///a
+b0 vault file:///a
+b0 vault file:///a
+w0 close file:///a
+b0 vault file:///a
+b0 vault file:///a";
+
+// For the last calls that succeed, from one number to another, what is restored after a crash with pick 0, 1, 2 and 3.
+const FUSES: &str = "\
+256 260: - - - -
+261 261: - hello hello -
+262 266: hello hello hello hello
+267 267: hello hello! hello! hello
+268 270: hello! hello! hello! hello!
+271 271: hello! - - hello!
+272 272: - - - -";
+
+// Compares what is restored where all calls behind this one fail.
+fn restores_each(rt: &impl Abort, alloc: Global, fuse: u64, contents: &str) -> Result<(), Fail> {
+    let head = format!(in alloc; "disk\nfuse {fuse}")?;
+    let mut pick = 0u64;
+    for content in contents.split(' ') {
+        let crash = match content {
+            "-" => format!(in alloc; "{pick}")?,
+            _ => format!(in alloc; "{pick} pair 0 restored file:///a none ={content}")?,
+        };
+        restores(rt, alloc, &head, DISCARD, &crash)?;
+        pick = pick.saturating_add(1);
+    }
+    Ok(())
+}
+
+#[test]
+fn what_is_restored_behind_each_last_call_and_each_pick(rt: HostRuntime) -> Result<(), Fail> {
+    for row in FUSES.lines() {
+        let (fuses, contents) = parted(row, ": ");
+        let (first, last) = parted(fuses, " ");
+        for fuse in number(first)..=number(last) {
+            restores_each(&rt, rt.alloc(), fuse, contents)?;
+        }
+    }
+    Ok(())
+}
 
 // A copy of a file is edited and saved.
-const SAVE: &str = "life plain
-outside 500 one
-open
-edit 3 0 !
-save
-flush
-flush";
+const SAVE: &str = "\
+w0 outside file:///a 500 =one
+w0 open file:///a
+w0 edit file:///a 3 0 =!
+w0 save file:///a
+s0 flush file:///a
+s0 flush file:///a";
 
-fn is_fault(outcome: &Outcome) -> bool {
-    match outcome {
-        Outcome::Fault | Outcome::StageFault(_, _) | Outcome::CheckFault | Outcome::WriteFault(_) =>
-            true,
-        _ => false,
+fn faults_of(lives: &[Life]) -> usize {
+    let mut count = 0usize;
+    for life in lives {
+        for entry in life.history.as_slice() {
+            count = count.saturating_add(is_fault(&entry.outcome) as usize);
+        }
     }
+    count
 }
 
 // How many entries are faults where this one call fails.
-fn faults(rt: &impl Abort, alloc: Global, call: u64, session: &str) -> Result<usize, Fail> {
-    let session = format!(in alloc; "fail {call}\n{session}")?;
-    let (_, life) = played(rt, alloc, &session)?.finish(Ended::Script);
-    let entries = life.history.as_slice().iter();
-    Ok(entries.filter(|entry| is_fault(&entry.outcome)).count())
+fn faults(alloc: Global, call: u64, lines: &str) -> Result<usize, Fail> {
+    let head = format!(in alloc; "disk\nfail {call}")?;
+    let text = script_text(alloc, &head, lines)?;
+    let (lives, _) = lives_of(alloc, &head, &text)?;
+    Ok(faults_of(&lives))
+}
+
+// Compares how many entries are faults where this call fails.
+fn has_faults(
+    rt: &impl Abort,
+    alloc: Global,
+    call: u64,
+    lines: &str,
+    wanted: usize,
+) -> Result<(), Fail> {
+    let faults = faults(alloc, call, lines)?;
+    assert!(rt; faults == wanted, "{faults} where {call} fails of {lines}");
+    Ok(())
 }
 
 #[test]
 fn each_call_that_fails_is_one_fault(rt: HostRuntime) -> Result<(), Fail> {
-    let alloc = rt.alloc();
     for call in 257..=272 {
-        assert_eq!(rt; faults(&rt, alloc, call, DISCARD)?, 1, "{call}");
+        has_faults(&rt, rt.alloc(), call, DISCARD, 1)?;
     }
-    assert_eq!(rt; faults(&rt, alloc, 273, DISCARD)?, 0);
+    has_faults(&rt, rt.alloc(), 273, DISCARD, 0)?;
     for call in 257..=267 {
-        assert_eq!(rt; faults(&rt, alloc, call, SAVE)?, 1, "{call}");
+        has_faults(&rt, rt.alloc(), call, SAVE, 1)?;
     }
-    assert_eq!(rt; faults(&rt, alloc, 268, SAVE)?, 0);
+    has_faults(&rt, rt.alloc(), 268, SAVE, 0)
+}
+
+// Lives that are ended: what the Closer does begins with `q`.
+const ENDS: &str = "\
+guarded
+hotexit trace 1
+life 1
+name file:///a
+w0 create file:///a => created 1
+w0 edit file:///a 0 0 =a => edited 2
+w0 save file:///a => started 2
+q flush file:///a => check none
+q vault file:///a => prepare 2 ok
+q vault file:///a => body 2 ok
+q vault file:///a => open 2 ok
+q flush file:///a => saved 2 5000 1
+q vault file:///a => fade ok
+q vault file:///a => drop ok
+q quit => quit
+end script
+copy file:///a version 2 clean backup none
+ticket 3 saved 2
+
+guarded
+fail 258
+hotexit trace 1
+life 1
+name file:///a
+w0 create file:///a => created 1
+w0 edit file:///a 0 0 =a => edited 2
+w0 save file:///a => started 2
+q flush file:///a => check none
+q vault file:///a => prepare 2 fault
+q flush file:///a => unguarded 2
+q quit => vetoed file:///a
+end script
+copy file:///a version 2 dirty backup none
+ticket 3 unguarded
+
+guarded
+fail 258
+hotexit trace 1
+life 1
+name file:///a
+w0 create file:///a => created 1
+w0 edit file:///a 0 0 =a => edited 2
+w0 save file:///a => started 2
+s0 flush file:///a => check none
+b0 vault file:///a => prepare 2 fault
+s0 flush file:///a => unguarded 2
+q quit => vetoed file:///a
+end script
+copy file:///a version 2 dirty backup none
+ticket 3 unguarded
+> crash 0
+
+disk
+hotexit trace 1
+life 1
+name file:///a
+w0 outside file:///a 5000 =one => written
+w0 open file:///a => opened 5000 3
+w0 edit file:///a 3 0 =! => edited 2
+w0 outside file:///a 9000 =two => written
+w0 save file:///a => started 2
+q flush file:///a => check 9000 3
+q flush file:///a => saved 2 6000 4
+q quit => quit
+end script
+copy file:///a version 2 clean backup none
+ticket 5 saved 2
+";
+
+// The lines of a trace without those of the Closer.
+fn without_closer(alloc: Global, lines: &str) -> Result<String, AllocError> {
+    let mut out = String::new(alloc);
+    for line in lines.lines() {
+        if !line.starts_with("q ") {
+            out.push_str(line)?;
+            out.push('\n')?;
+        }
+    }
+    Ok(out)
+}
+
+type Answer = Result<Outcome, AllocError>;
+
+// The life that is ended by asking twice, with both answers.
+fn quit(registry: Registry<MemDisk>) -> (Answer, Answer, Life) {
+    let mut registry = registry;
+    let answer = registry.quit();
+    let again = registry.quit();
+    let (_, life) = registry.finish(Ended::Script);
+    (answer, again, life)
+}
+
+// Lets the Closer end the life, and compares what is printed of it and what both questions are answered.
+fn closes(rt: &impl Abort, alloc: Global, head: &str, lines: &str) -> Result<(), Fail> {
+    let text = script_text(alloc, head, &without_closer(alloc, lines)?)?;
+    let mut lives = Vec::new(alloc);
+    let (answer, again, life) = quit(played(alloc, head, script(alloc, &text)?, &mut lives)?);
+    let (answer, again) = (answer?, again?);
+    let last = life.history.as_slice().last().map(|entry| entry.outcome);
+    assert_eq!(rt; Some(answer), last, "{lines}");
+    assert_eq!(rt; again, answer, "{lines}");
+    lives.push(life)?;
+    assert!(rt; are_whole(&lives));
+    compare(&out(alloc, &lives)?, &trace_text(alloc, lines)?)
+}
+
+#[test]
+fn a_life_is_ended_by_its_due_stages_and_one_question(rt: HostRuntime) -> Result<(), Fail> {
+    for row in ENDS.split("\n\n") {
+        let (head, lines, notes) = row_parts(row);
+        closes(&rt, rt.alloc(), head, lines)?;
+        ends_all(&rt, rt.alloc(), head, lines, notes)?;
+    }
     Ok(())
 }

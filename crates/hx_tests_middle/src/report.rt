@@ -1,365 +1,199 @@
-ghost use Rattle.std.specs.Prelude.{◌≡◌, ◌<◌, true, length};
-ghost use Rattle.hx_events.specs.Texts.{IsEntryOf, IsEventOf, IsOutcomeOf};
-ghost use Rattle.hx_report.specs.Traces.{AreEntriesOf, AreWhole, IsWhole};
-
-use hx_report::{out, pairs, summary, tail};
-use hx_etag::Stat;
-use hx_events::{
-    Actor, Backup, Bytes, Command, Ended, Entry, Event, Items, Life, Names, Outcome, PairFound,
-    PairNo, ResNo, Side, Stage,
-};
-use std::alloc::{AllocError, Global};
+use crate::traces::TRACES;
+use crate::whole::{are_whole, is_whole};
+use crate::words::{compare, read, row_parts, trace_text};
+use hx_events::{Ended, Life};
+use hx_report::{out, summary, tail};
+use std::alloc::Global;
+use std::process::Abort;
 use std::test::Fail;
 
-// An event of a resource.
-#[derive(Clone, Copy)]
-enum Do {
-    Open,
-    Create,
-    Edit(u64, &'static [u8]),
-    Save(bool),
-    Outside(u64, &'static [u8]),
-    Vault,
-    Flush,
-    Quit,
-}
-
-// By whom, of which resource, what, and what it came to.
-type Deed = (Actor, u32, Do, Outcome);
-
-const PREPARED: Outcome = Outcome::StageOk(Stage::Prepare, 2);
-
-const WRITTEN: Outcome = Outcome::StageOk(Stage::Body, 2);
-
-const BACKED_UP: Outcome = Outcome::StageOk(Stage::Open, 2);
-
-const WINDOW: Actor = Actor::Window(0);
-
-const WRITER: Actor = Actor::Writer(0);
-
-const SAVER: Actor = Actor::Saver(0);
-
-fn event(alloc: Global, res: u32, done: Do) -> Result<Event, AllocError>
-    requires { res < 256 }
-{
-    let res = ResNo::new(res);
-    Ok(match done {
-        Do::Open => Event::Act(Command::Open(res)),
-        Do::Create => Event::Act(Command::Create(res)),
-        Do::Edit(off, text) => Event::Act(Command::Edit {
-            res,
-            off,
-            del: 0,
-            text: Bytes::new(text.to_vec(alloc)?),
-        }),
-        Do::Save(over) => Event::Act(Command::Save {
-            res,
-            force: false,
-            over,
-        }),
-        Do::Outside(mtime, text) => Event::Act(Command::Outside {
-            res,
-            mtime,
-            text: Bytes::new(text.to_vec(alloc)?),
-        }),
-        Do::Vault => Event::Vault(res),
-        Do::Flush => Event::Flush(res),
-        Do::Quit => Event::Quit,
-    })
-}
-
-fn history(alloc: Global, deeds: &[Deed]) -> Result<Items<Entry>, Fail> {
-    let mut entries = Vec::new(alloc);
-    for (actor, res, done, outcome) in deeds {
-        if *res >= 256 {
-            return Err(Fail::from("no such resource"));
-        }
-        entries.push(Entry {
-            moment: 0,
-            faults: 0,
-            actor: *actor,
-            event: event(alloc, *res, *done)?,
-            outcome: *outcome,
-            content: Bytes::new(Vec::new(alloc)),
-        })?;
+fn lives_of(alloc: Global, text: &str) -> Result<Vec<Life>, Fail> {
+    let trace = read(alloc, text)?;
+    let mut lives = Vec::new(alloc);
+    for told in trace.lives.into_vec() {
+        lives.push(told.life)?;
     }
-    Ok(Items::new(entries))
+    Ok(lives)
 }
 
-fn names(alloc: Global, texts: &[&[u8]]) -> Result<Names, Fail> {
-    let mut names = Names::new(alloc);
-    for text in texts {
-        if names.len() < 256 && names.find(text).is_none() {
-            if names.add(text.to_vec(alloc)?).is_err() {
-                return Err(Fail::from("no memory for a name"));
-            }
-        }
-    }
-    Ok(names)
+// The lives that are read from a text are printed as that text.
+fn prints(rt: &impl Abort, alloc: Global, text: &str) -> Result<(), Fail> {
+    let lives = lives_of(alloc, text)?;
+    assert!(rt; are_whole(&lives));
+    compare(&out(alloc, &lives)?, text)
 }
 
-fn hello(alloc: Global, resource: &[u8]) -> Result<PairFound, AllocError> {
-    Ok(PairFound::Found(
-        Backup {
-            resource: Bytes::new(resource.to_vec(alloc)?),
-            base: None,
-            content: Bytes::new(b"hello".to_vec(alloc)?),
-        },
-        Side::A,
-    ))
+fn prints_row(rt: &impl Abort, alloc: Global, lines: &str) -> Result<(), Fail> {
+    let text = trace_text(alloc, lines)?;
+    prints(rt, alloc, &text)
 }
-
-fn life(
-    alloc: Global,
-    texts: &[&[u8]],
-    base: Vec<PairFound>,
-    deeds: &[Deed],
-    ended: Ended,
-) -> Result<Life, Fail> {
-    Ok(Life {
-        names: names(alloc, texts)?,
-        base: Items::new(base),
-        moment: 0,
-        faults: 0,
-        history: history(alloc, deeds)?,
-        ended,
-        guarded: false,
-    })
-}
-
-fn is_event_of(names: &Names, event: &Event) -> bool
-    ensures { result ≡ true → IsEventOf names.now event.now }
-{
-    let count = names.len();
-    match event {
-        Event::Act(command) => match command {
-            Command::Open(res)
-            | Command::Create(res)
-            | Command::Undo(res)
-            | Command::Redo(res)
-            | Command::Revert(res)
-            | Command::Close(res) => (res.number() as usize) < count,
-            Command::Edit { res, .. } => (res.number() as usize) < count,
-            Command::Save { res, .. } => (res.number() as usize) < count,
-            Command::Outside { res, .. } => (res.number() as usize) < count,
-        },
-        Event::Vault(res) => (res.number() as usize) < count,
-        Event::Flush(res) => (res.number() as usize) < count,
-        Event::Quit => true,
-    }
-}
-
-fn is_outcome_of(names: &Names, outcome: &Outcome) -> bool
-    ensures { result ≡ true → IsOutcomeOf names.now outcome.now }
-{
-    match outcome {
-        Outcome::Vetoed(res) => (res.number() as usize) < names.len(),
-        _ => true,
-    }
-}
-
-fn are_entries_of(names: &Names, entries: &[Entry]) -> bool
-    ensures { result ≡ true → AreEntriesOf names.now entries.now }
-{
-    match entries {
-        [] => true,
-        [first, rest @ ..] => {
-            is_event_of(names, &first.event)
-                && is_outcome_of(names, &first.outcome)
-                && are_entries_of(names, rest)
-        }
-    }
-}
-
-fn is_whole(life: &Life) -> bool
-    ensures { result ≡ true → IsWhole life.now }
-{
-    are_entries_of(&life.names, life.history.as_slice())
-}
-
-fn are_whole(lives: &[Life]) -> bool
-    ensures { result ≡ true → AreWhole lives.now }
-{
-    match lives {
-        [] => true,
-        [first, rest @ ..] => is_whole(first) && are_whole(rest),
-    }
-}
-
-const QUIET_LIFE: &str = "hotexit trace 1\nlife 1\nq quit\tquit\nend script\n";
 
 #[test]
-fn a_life_of_nothing_but_its_end(rt: HostRuntime) -> Result<(), Fail> {
-    let alloc = rt.alloc();
-    let deeds = [(Actor::Closer, 0, Do::Quit, Outcome::Quit)];
-    let quiet = life(alloc, &[], Vec::new(alloc), &deeds, Ended::Script)?;
-    let cut = life(alloc, &[b"file:///a"], Vec::new(alloc), &deeds, Ended::Cut)?;
-    let lives = vec![in alloc; quiet, cut]?;
-    assert!(rt; are_whole(lives.as_slice()));
-    assert_eq!(rt;
-        out(alloc, lives.as_slice())?.as_slice(),
-        QUIET_LIFE.as_bytes()
-    );
+fn traces_are_printed_as_they_were_read(rt: HostRuntime) -> Result<(), Fail> {
+    for row in TRACES.split("\n\n") {
+        prints_row(&rt, rt.alloc(), row_parts(row).1)?;
+    }
     Ok(())
 }
 
-const CONFLICT: &str = "hotexit trace 1
+// Each kind of a pair and each outcome. No life comes to these, but they are printed as they were read.
+const LINES: &str = "\
 life 1
-name file:///a
-w0 outside file:///a 5000 =one\twritten
-w0 open file:///a\topened 5000 3
-w0 edit file:///a 3 0 =!\tedited 2
-w0 outside file:///a 9000 =other\twritten
-w0 save file:///a\tstarted 2
-s0 flush file:///a\tmodified 9000 5
-w0 save file:///a over\tstarted 2
-s0 flush file:///a\tcheck 9000 5
-s0 flush file:///a\tsaved 2 6000 4
-q quit\tquit
-end script
-copy file:///a version 2 clean backup none
-ticket 5 modified
-ticket 7 saved 2
-";
-
-#[test]
-fn a_save_over_a_conflict(rt: HostRuntime) -> Result<(), Fail> {
-    let alloc = rt.alloc();
-    let opened = Stat {
-        mtime: 5000,
-        size: 3,
-    };
-    let other = Stat {
-        mtime: 9000,
-        size: 5,
-    };
-    let saved = Stat {
-        mtime: 6000,
-        size: 4,
-    };
-    let deeds = [
-        (WINDOW, 0, Do::Outside(5000, b"one"), Outcome::Written),
-        (WINDOW, 0, Do::Open, Outcome::Opened(opened)),
-        (WINDOW, 0, Do::Edit(3, b"!"), Outcome::Edited(2)),
-        (WINDOW, 0, Do::Outside(9000, b"other"), Outcome::Written),
-        (WINDOW, 0, Do::Save(false), Outcome::Started(2)),
-        (SAVER, 0, Do::Flush, Outcome::Modified(other)),
-        (WINDOW, 0, Do::Save(true), Outcome::Started(2)),
-        (SAVER, 0, Do::Flush, Outcome::Checked(Some(other))),
-        (SAVER, 0, Do::Flush, Outcome::Saved(2, Some(saved))),
-        (Actor::Closer, 0, Do::Quit, Outcome::Quit),
-    ];
-    let one = life(
-        alloc,
-        &[b"file:///a"],
-        Vec::new(alloc),
-        &deeds,
-        Ended::Script,
-    )?;
-    let lives = vec![in alloc; one]?;
-    assert!(rt; are_whole(lives.as_slice()));
-    assert_eq!(rt;
-        out(alloc, lives.as_slice())?.as_slice(),
-        CONFLICT.as_bytes()
-    );
-    Ok(())
-}
-
-const RESTART: &str = "hotexit trace 1
-life 1
-name file:///a
-w0 create file:///a\tcreated 1
-w0 edit file:///a 0 0 =hello\tedited 2
-b0 vault file:///a\tprepare 2 ok
-b0 vault file:///a\tbody 2 ok
-b0 vault file:///a\topen 2 ok
-q quit\tquit
-end restart
-copy file:///a version 2 dirty backup 2
-life 2
 name file:///a
 pair 0 restored file:///a none =hello
-q quit\tquit
-end script
-copy file:///a version 1 dirty backup 1
-";
+pair 1 twin 0
+pair 2 damaged
+pair 63 restored file:///a 18446744073709551615 7 =%00%25
+q vault file:///a => opened 1 2
+q vault file:///a => created 1
+q vault file:///a => edited 2
+q vault file:///a => undone 3
+q vault file:///a => redone 4
+q vault file:///a => joined
+q vault file:///a => clean
+q vault file:///a => queued
+q vault file:///a => started 5
+q vault file:///a => reverted 6 7
+q vault file:///a => written
+q vault file:///a => missing
+q vault file:///a => nopair
+q vault file:///a => alreadyopen
+q vault file:///a => notopen
+q vault file:///a => outofcontent
+q vault file:///a => toolarge
+q vault file:///a => noundo
+q vault file:///a => noredo
+q vault file:///a => saving
+q vault file:///a => fault
+q vault file:///a => idle
+q vault file:///a => spent
+q vault file:///a => prepare 1 ok
+q vault file:///a => body 2 fault
+q vault file:///a => open 3 ok
+q vault file:///a => fade ok
+q vault file:///a => drop fault
+q vault file:///a => check 1 2
+q vault file:///a => check none
+q vault file:///a => check fault
+q vault file:///a => modified 8 9
+q vault file:///a => saved 1 2 3
+q vault file:///a => saved 1 none
+q vault file:///a => write 1 fault
+q vault file:///a => quit
+q vault file:///a => vetoed file:///a
+q vault file:///a => closed
+end crash 7";
 
 #[test]
-fn a_restart_over_a_backup(rt: HostRuntime) -> Result<(), Fail> {
-    let alloc = rt.alloc();
-    let deeds = [
-        (WINDOW, 0, Do::Create, Outcome::Created(1)),
-        (WINDOW, 0, Do::Edit(0, b"hello"), Outcome::Edited(2)),
-        (WRITER, 0, Do::Vault, PREPARED),
-        (WRITER, 0, Do::Vault, WRITTEN),
-        (WRITER, 0, Do::Vault, BACKED_UP),
-        (Actor::Closer, 0, Do::Quit, Outcome::Quit),
-    ];
-    let quit = [(Actor::Closer, 0, Do::Quit, Outcome::Quit)];
-    let name = b"file:///a";
-    let first = life(alloc, &[name], Vec::new(alloc), &deeds, Ended::Restart)?;
-    let found = vec![in alloc; hello(alloc, name)?]?;
-    let second = life(alloc, &[name], found, &quit, Ended::Script)?;
-    assert!(rt; is_whole(&second));
-    assert_eq!(rt;
-        tail(alloc, &second)?.as_slice(),
-        b"copy file:///a version 1 dirty backup 1\n".as_slice()
-    );
-    let lives = vec![in alloc; first, second]?;
-    assert!(rt; are_whole(lives.as_slice()));
-    assert_eq!(rt;
-        out(alloc, lives.as_slice())?.as_slice(),
-        RESTART.as_bytes()
-    );
-    Ok(())
+fn each_outcome_and_each_kind_of_pair_is_read_and_printed(rt: HostRuntime) -> Result<(), Fail> {
+    prints_row(&rt, rt.alloc(), LINES)
 }
 
-const SHARED: &str = "copy a version 5 clean backup none
+// Requests to save that wait share an answer.
+const SHARED: &str = "\
+life 1
+name a
+w0 create a => created 1
+w0 edit a 0 0 =a => edited 2
+w0 save a => started 2
+w0 edit a 0 0 =b => edited 3
+w0 save a => queued
+w0 edit a 0 0 =c => edited 4
+w0 save a => queued
+w0 edit a 0 0 =d => edited 5
+w0 save a => queued
+s0 flush a => check none
+s0 flush a => saved 2 none
+s0 flush a => check none
+s0 flush a => saved 5 none
+end script";
+
+const SHARED_TAIL: &str = "\
+copy a version 5 clean backup none
 ticket 3 saved 2
 ticket 5 saved 5
 ticket 7 saved 5
 ticket 9 saved 5
 ";
 
-#[test]
-fn requests_that_wait_share_an_answer(rt: HostRuntime) -> Result<(), Fail> {
-    let alloc = rt.alloc();
-    let deeds = [
-        (WINDOW, 0, Do::Create, Outcome::Created(1)),
-        (WINDOW, 0, Do::Edit(0, b"a"), Outcome::Edited(2)),
-        (WINDOW, 0, Do::Save(false), Outcome::Started(2)),
-        (WINDOW, 0, Do::Edit(0, b"b"), Outcome::Edited(3)),
-        (WINDOW, 0, Do::Save(false), Outcome::Queued),
-        (WINDOW, 0, Do::Edit(0, b"c"), Outcome::Edited(4)),
-        (WINDOW, 0, Do::Save(false), Outcome::Queued),
-        (WINDOW, 0, Do::Edit(0, b"d"), Outcome::Edited(5)),
-        (WINDOW, 0, Do::Save(false), Outcome::Queued),
-        (SAVER, 0, Do::Flush, Outcome::Checked(None)),
-        (SAVER, 0, Do::Flush, Outcome::Saved(2, None)),
-        (SAVER, 0, Do::Flush, Outcome::Checked(None)),
-        (SAVER, 0, Do::Flush, Outcome::Saved(5, None)),
-    ];
-    let one = life(alloc, &[b"a"], Vec::new(alloc), &deeds, Ended::Script)?;
-    assert!(rt; is_whole(&one));
-    assert_eq!(rt; tail(alloc, &one)?.as_slice(), SHARED.as_bytes());
-    Ok(())
+// The lives as they are when memory has run out.
+fn cut(lives: &mut [Life]) {
+    for life in lives {
+        life.ended = Ended::Cut;
+    }
 }
 
 #[test]
-fn pairs_that_hold_something_have_a_line(rt: HostRuntime) -> Result<(), Fail> {
+fn a_life_that_was_cut_has_a_tail_and_is_not_printed(rt: HostRuntime) -> Result<(), Fail> {
     let alloc = rt.alloc();
-    let base = vec![in alloc;
-        hello(alloc, b"file:///a")?,
-        PairFound::Twin(PairNo::new(0)),
-        PairFound::Damaged,
-        PairFound::Empty,
-    ]?;
-    let want = "pair 0 restored file:///a none =hello\npair 1 twin 0\npair 2 damaged\n";
-    assert_eq!(rt; pairs(alloc, base.as_slice())?.as_slice(), want.as_bytes());
+    let mut lives = lives_of(alloc, &trace_text(alloc, SHARED)?)?;
+    cut(&mut lives);
+    assert!(rt; are_whole(&lives));
+    compare(&out(alloc, &lives)?, "hotexit trace 1\n")?;
+    for life in &lives {
+        assert!(rt; is_whole(life));
+        compare(&tail(alloc, life)?, SHARED_TAIL)?;
+    }
+    assert_eq!(rt; lives.len(), 1);
     Ok(())
 }
 
-const MADE: &str = "made 1
+// The lives of the generated script of 1: eight windows, eight turns, what an orderly end does of the three edited files, and
+// a restart.
+const MADE: &str = "\
+life 1
+name mem:/0
+name mem:/1
+name mem:/2
+name mem:/3
+name mem:/4
+name mem:/5
+name mem:/6
+name mem:/7
+w0 create mem:/0 => created 1
+w1 create mem:/1 => created 1
+w2 create mem:/2 => created 1
+w3 create mem:/3 => created 1
+w4 create mem:/4 => created 1
+w5 create mem:/5 => created 1
+w6 create mem:/6 => created 1
+w7 create mem:/7 => created 1
+w5 edit mem:/5 0 0 =1 => edited 2
+s0 flush mem:/1 => idle
+b0 vault mem:/1 => idle
+b0 vault mem:/4 => idle
+w3 edit mem:/3 0 0 =5 => edited 2
+s0 flush mem:/3 => idle
+b0 vault mem:/7 => idle
+w1 edit mem:/1 0 0 =8 => edited 2
+q vault mem:/1 => prepare 2 ok
+q vault mem:/1 => body 2 ok
+q vault mem:/1 => open 2 ok
+q vault mem:/3 => prepare 2 ok
+q vault mem:/3 => body 2 ok
+q vault mem:/3 => open 2 ok
+q vault mem:/5 => prepare 2 ok
+q vault mem:/5 => body 2 ok
+q vault mem:/5 => open 2 ok
+q quit => quit
+end restart
+life 2
+name mem:/0
+name mem:/1
+name mem:/2
+name mem:/3
+name mem:/4
+name mem:/5
+name mem:/6
+name mem:/7
+pair 0 restored mem:/1 none =8
+pair 1 restored mem:/3 none =5
+pair 2 restored mem:/5 none =1
+q quit => quit
+end script";
+
+const SUMMARY: &str = "\
+made 1
 entries 27
 edits 3
 backups 3
@@ -372,56 +206,10 @@ restored 3
 dirty 3
 ";
 
-const EIGHT: [&[u8]; 8] = [
-    b"mem:/0", b"mem:/1", b"mem:/2", b"mem:/3", b"mem:/4", b"mem:/5", b"mem:/6", b"mem:/7",
-];
-
-// The first life of the generated script of 1: eight windows, eight turns, and what an orderly end does of the three edited files.
-const FIRST_LIFE: [Deed; 26] = [
-    (Actor::Window(0), 0, Do::Create, Outcome::Created(1)),
-    (Actor::Window(1), 1, Do::Create, Outcome::Created(1)),
-    (Actor::Window(2), 2, Do::Create, Outcome::Created(1)),
-    (Actor::Window(3), 3, Do::Create, Outcome::Created(1)),
-    (Actor::Window(4), 4, Do::Create, Outcome::Created(1)),
-    (Actor::Window(5), 5, Do::Create, Outcome::Created(1)),
-    (Actor::Window(6), 6, Do::Create, Outcome::Created(1)),
-    (Actor::Window(7), 7, Do::Create, Outcome::Created(1)),
-    (Actor::Window(5), 5, Do::Edit(0, b"1"), Outcome::Edited(2)),
-    (SAVER, 1, Do::Flush, Outcome::Idle),
-    (WRITER, 1, Do::Vault, Outcome::Idle),
-    (WRITER, 4, Do::Vault, Outcome::Idle),
-    (Actor::Window(3), 3, Do::Edit(0, b"5"), Outcome::Edited(2)),
-    (SAVER, 3, Do::Flush, Outcome::Idle),
-    (WRITER, 7, Do::Vault, Outcome::Idle),
-    (Actor::Window(1), 1, Do::Edit(0, b"8"), Outcome::Edited(2)),
-    (Actor::Closer, 1, Do::Vault, PREPARED),
-    (Actor::Closer, 1, Do::Vault, WRITTEN),
-    (Actor::Closer, 1, Do::Vault, BACKED_UP),
-    (Actor::Closer, 3, Do::Vault, PREPARED),
-    (Actor::Closer, 3, Do::Vault, WRITTEN),
-    (Actor::Closer, 3, Do::Vault, BACKED_UP),
-    (Actor::Closer, 5, Do::Vault, PREPARED),
-    (Actor::Closer, 5, Do::Vault, WRITTEN),
-    (Actor::Closer, 5, Do::Vault, BACKED_UP),
-    (Actor::Closer, 0, Do::Quit, Outcome::Quit),
-];
-
 #[test]
 fn the_summary_of_a_made_script(rt: HostRuntime) -> Result<(), Fail> {
     let alloc = rt.alloc();
-    let quit = [(Actor::Closer, 0, Do::Quit, Outcome::Quit)];
-    let first = life(alloc, &EIGHT, Vec::new(alloc), &FIRST_LIFE, Ended::Restart)?;
-    let found = vec![in alloc;
-        hello(alloc, b"mem:/1")?,
-        hello(alloc, b"mem:/3")?,
-        hello(alloc, b"mem:/5")?,
-    ]?;
-    let second = life(alloc, &EIGHT, found, &quit, Ended::Script)?;
-    let lives = vec![in alloc; first, second]?;
-    assert!(rt; are_whole(lives.as_slice()));
-    assert_eq!(rt;
-        summary(alloc, 1, lives.as_slice())?.as_slice(),
-        MADE.as_bytes()
-    );
-    Ok(())
+    let lives = lives_of(alloc, &trace_text(alloc, MADE)?)?;
+    assert!(rt; are_whole(&lives));
+    compare(&summary(alloc, 1, &lives)?, SUMMARY)
 }

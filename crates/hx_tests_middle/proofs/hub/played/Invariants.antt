@@ -1,5 +1,5 @@
 use Rattle.hx_hub.specs.Shared.{so_far}
-use Rattle.hx_hub.proofs.tests.played.Given as goal
+use Rattle.hx_tests_middle.proofs.hub.played.Given as goal
 
 -- the hub's name says what it was made over
 abbrev pub ghosts-named : goal.ghosts-named

@@ -1,5 +1,5 @@
 use Rattle.std.proofs.Common.{length}
-use Rattle.hx_report.proofs.tests.+are_entries_of.Given as goal
+use Rattle.hx_tests_middle.proofs.whole.+are_entries_of.Given as goal
 
 abbrev pub decreases-are_entries_of : goal.decreases-are_entries_of
 decreases-are_entries_of l = length l.entries.now

@@ -1,5 +1,5 @@
 use Rattle.std.proofs.Common.{length}
-use Rattle.hx_report.proofs.tests.+are_whole.Given as goal
+use Rattle.hx_tests_middle.proofs.whole.+are_whole.Given as goal
 
 abbrev pub decreases-are_whole : goal.decreases-are_whole
 decreases-are_whole l = length l.lives.now

@@ -1,8 +1,0 @@
-use Rattle.std.proofs.Common.{◌≡◌, []}
-use Rattle.hx_hub.proofs.tests.edits.Given as goal
-
-abbrev pub invariant-loop : goal.invariant-loop
-invariant-loop g l = record {
-  parts : l.pass.parts ≡ 1;
-  here : l.pass.leaves ≡ [];
-}
