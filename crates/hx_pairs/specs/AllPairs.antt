@@ -58,7 +58,7 @@ pub record IsTwinValue (b : Start) (p : ℕ) (value : PairValue) : Type 0 where
   pub twin : HasTwin b.base backup.resource
   pub named : IsNamed b.names backup.resource
 
--- a barred pair, whose value never changes
+-- a barred pair, which has one value in every image of these files
 pub record IsForeign (b : Start) (p : ℕ) (files : ℕ → FileState) : Type 0 where
   pub value : PairValue
   pub fixed : (x y : List ℕ) → IsImage (files (2 * p)) x → IsImage (files (2 * p + 1)) y → value_of (side_of (shown_in x)) (side_of (shown_in y)) ≡ value
