@@ -61,6 +61,13 @@ const FILES: &str = "\
 264 265 0 1 1 1
 266 271 1 1 1 1";
 
+/// What a table tells of the second life.
+#[derive(Clone, Copy)]
+enum Told {
+    Backup,
+    Size,
+}
+
 // What the second life begins with.
 fn restored(second: &str) -> &str {
     let (pair, behind) = parted(second, "\n");
@@ -77,6 +84,13 @@ fn size(second: &str) -> &str {
     let (stat, _) = parted(found, "\n");
     let (_, size) = parted(stat, " ");
     if size.is_empty() { "-" } else { size }
+}
+
+fn found(told: Told, second: &str) -> &str {
+    match told {
+        Told::Backup => restored(second),
+        Told::Size => size(second),
+    }
 }
 
 // Plays the script with this fuse and a crash behind it, and gives what the second life prints behind its name.
@@ -102,7 +116,7 @@ fn is_as_said<R: Threads + Wait + Sync + Abort>(
     command: &str,
     script: &str,
     line: &str,
-    found: fn(&str) -> &str,
+    told: Told,
 ) -> Result<(), Fail> {
     let (first, rest) = parted(line, " ");
     let (last, wanted) = parted(rest, " ");
@@ -110,7 +124,7 @@ fn is_as_said<R: Threads + Wait + Sync + Abort>(
         let words = format!(in alloc; "--fuse {fuse} {command}")?;
         for (pick, content) in wanted.split(' ').enumerate() {
             let second = second_life(rt, alloc, &words, script, pick as u64)?;
-            assert_eq!(rt; found(&second), content, "{words}, pick {pick}");
+            assert_eq!(rt; found(told, &second), content, "{words}, pick {pick}");
         }
     }
     Ok(())
@@ -120,7 +134,7 @@ fn is_as_said<R: Threads + Wait + Sync + Abort>(
 fn each_fuse_and_each_pick_of_a_discard(rt: HostRuntime) -> Result<(), Fail> {
     let alloc = rt.alloc();
     for line in DISCARDED.split('\n') {
-        is_as_said(&rt, alloc, "replay", DISCARD, line, restored)?;
+        is_as_said(&rt, alloc, "replay", DISCARD, line, Told::Backup)?;
     }
     Ok(())
 }
@@ -129,10 +143,10 @@ fn each_fuse_and_each_pick_of_a_discard(rt: HostRuntime) -> Result<(), Fail> {
 fn each_fuse_and_each_pick_of_a_guarded_save(rt: HostRuntime) -> Result<(), Fail> {
     let alloc = rt.alloc();
     for line in KEPT.split('\n') {
-        is_as_said(&rt, alloc, "replay --guarded", GUARDED, line, restored)?;
+        is_as_said(&rt, alloc, "replay --guarded", GUARDED, line, Told::Backup)?;
     }
     for line in FILES.split('\n') {
-        is_as_said(&rt, alloc, "replay --guarded", GUARDED, line, size)?;
+        is_as_said(&rt, alloc, "replay --guarded", GUARDED, line, Told::Size)?;
     }
     Ok(())
 }
