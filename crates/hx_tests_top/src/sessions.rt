@@ -21,7 +21,7 @@ struct Session {
     words: String,
     input: Vec<u8>,
     output: Vec<u8>,
-    status: u64,
+    status: u8,
     told: Vec<u8>,
 }
 
@@ -74,6 +74,13 @@ fn add(alloc: Global, text: &mut Vec<u8>, said: &str) -> Result<(), AllocError> 
     }
 }
 
+fn small(text: &str) -> u8 {
+    match text.parse::<u8>() {
+        Ok(number) => number,
+        Err(_) => 0,
+    }
+}
+
 // Takes one line of a session, by its mark.
 fn take(alloc: Global, session: &mut Session, line: &str) -> Result<(), AllocError> {
     let (mark, said) = parted(line, " ");
@@ -83,7 +90,7 @@ fn take(alloc: Global, session: &mut Session, line: &str) -> Result<(), AllocErr
         add(alloc, &mut session.output, said)?;
     } else if mark == "!" {
         let (status, told) = parted(said, " ");
-        session.status = number(status);
+        session.status = small(status);
         add_line(&mut session.told, told)?;
     }
     Ok(())
@@ -102,7 +109,7 @@ fn plays_as_said<R: Threads + Wait + Sync + Abort>(
     let words = session.words.as_str();
     let ran = run(rt, alloc, words, &session.input)?;
     assert!(rt;
-        ran.code == ExitCode::from(session.status as u8),
+        ran.code == ExitCode::from(session.status),
         "{words}: {:?}",
         ran.end
     );
