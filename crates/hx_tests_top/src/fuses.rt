@@ -1,6 +1,7 @@
 //! What comes back after a crash with the picks 0 to 3, where every device call behind one of these fails.
 
 use crate::playing::{number, parted, run, text_of};
+use hx_filedisk::Stores;
 use std::alloc::Global;
 use std::process::Abort;
 use std::sync::Wait;
@@ -94,7 +95,7 @@ fn found(told: Told, second: &str) -> &str {
 }
 
 // Plays the script with this fuse and a crash behind it, and gives what the second life prints behind its name.
-fn second_life<R: Threads + Wait + Sync>(
+fn second_life<R: Threads + Wait + Sync + Stores>(
     rt: &R,
     alloc: Global,
     words: &str,
@@ -110,7 +111,7 @@ fn second_life<R: Threads + Wait + Sync>(
 }
 
 // Compares one line of a table with what its fuses and picks leave.
-fn is_as_said<R: Threads + Wait + Sync + Abort>(
+fn is_as_said<R: Threads + Wait + Sync + Abort + Stores>(
     rt: &R,
     alloc: Global,
     command: &str,

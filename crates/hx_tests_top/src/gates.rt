@@ -3,6 +3,7 @@
 use crate::playing::{parted, run, text_of, words_in};
 use hx_actors::{Gate, OpenGate};
 use hx_events::Actor;
+use hx_filedisk::Stores;
 use hx_io::{MemSink, MemSource};
 use hx_memdisk::MemDisk;
 use hx_top::{DiskChoice, End, Finished, disk_words, top_run};
@@ -22,7 +23,9 @@ fn run_at_once<R: Threads + Wait + Sync, G: Gate + Sync>(
     gate: &G,
 ) -> Result<(End, Vec<u8>), AllocError> {
     let words = words_in(alloc, words)?;
-    let DiskChoice::Memory(plan) = disk_words(alloc, &words)?;
+    let DiskChoice::Memory(plan) = disk_words(alloc, &words)? else {
+        return Err(AllocError);
+    };
     let disk = MemDisk::new(alloc, plan)?;
     let mut source = MemSource::new(script.as_bytes().to_vec(alloc)?, Vec::new(alloc));
     let mut sink = MemSink::new(alloc, 100_000, Vec::new(alloc))?;
@@ -253,7 +256,7 @@ fn printed_events(alloc: Global, output: &str) -> Result<String, AllocError> {
 }
 
 // Runs windows at once, with one device call that fails, and replays what was printed over a disk of the same plan.
-fn replays_the_same<R: Threads + Wait + Abort + Sync>(
+fn replays_the_same<R: Threads + Wait + Abort + Sync + Stores>(
     rt: &R,
     alloc: Global,
     seed: u64,

@@ -1,7 +1,11 @@
-//! Tests of the whole program with its streams in memory: sessions worked by hand, how it ends, disks and streams that fail, and
-//! windows at once.
+//! Tests of the whole program with its streams in memory: sessions worked by hand, how it ends, disks and streams that fail,
+//! folders of files, and windows at once.
 #![tactic(auto)]
 
+#[cfg(test)]
+mod failing;
+#[cfg(test)]
+mod files;
 #[cfg(test)]
 mod fuses;
 #[cfg(test)]
@@ -22,5 +26,7 @@ mod sessions_of_ends;
 mod sessions_of_guards;
 #[cfg(test)]
 mod sessions_of_saves;
+#[cfg(test)]
+mod stores;
 #[cfg(test)]
 mod streams;

@@ -1,5 +1,6 @@
 //! Runs the program with its streams in memory.
 
+use hx_filedisk::Stores;
 use hx_io::{MemSink, MemSource};
 use hx_top::{End, run_to_exit};
 use std::alloc::{AllocError, Global};
@@ -28,7 +29,7 @@ pub fn words_in(alloc: Global, line: &str) -> Result<Vec<String>, AllocError> {
 }
 
 /// Runs these words over this source, with so much room behind standard output.
-pub fn run_over<R: Threads + Wait + Sync>(
+pub fn run_over<R: Threads + Wait + Sync + Stores>(
     rt: &R,
     alloc: Global,
     words: &str,
@@ -47,7 +48,7 @@ pub fn run_over<R: Threads + Wait + Sync>(
     })
 }
 
-pub fn run<R: Threads + Wait + Sync>(
+pub fn run<R: Threads + Wait + Sync + Stores>(
     rt: &R,
     alloc: Global,
     words: &str,

@@ -10,6 +10,7 @@ use crate::sessions_of_blocks::BLOCKS;
 use crate::sessions_of_ends::ENDS;
 use crate::sessions_of_guards::GUARDS;
 use crate::sessions_of_saves::SAVES;
+use hx_filedisk::Stores;
 use std::alloc::{AllocError, Global};
 use std::process::{Abort, ExitCode};
 use std::sync::Wait;
@@ -101,7 +102,7 @@ fn is_judged(session: &Session, ran: &Ran) -> bool {
 }
 
 // What is printed of plain lives is a legal trace. A trace of guarded ones isn't judged.
-fn plays_as_said<R: Threads + Wait + Sync + Abort>(
+fn plays_as_said<R: Threads + Wait + Sync + Abort + Stores>(
     rt: &R,
     alloc: Global,
     session: &Session,
@@ -125,7 +126,7 @@ fn plays_as_said<R: Threads + Wait + Sync + Abort>(
     Ok(())
 }
 
-fn play_all<R: Threads + Wait + Sync + Abort>(
+fn play_all<R: Threads + Wait + Sync + Abort + Stores>(
     rt: &R,
     alloc: Global,
     text: &str,

@@ -67,6 +67,27 @@ $ run --fail 300
 $ --store
 > hotexit 1
 ! 2 usage: hotexit [--fail N]... [--fuse N] [--store DIR] replay, run [--workers N], restore, check or made N
+$ --store d
+> hotexit 1
+! 2 usage: hotexit [--fail N]... [--fuse N] [--store DIR] replay, run [--workers N], restore, check or made N
+$ --store d --fail 1 replay
+> hotexit 1
+! 2 usage: hotexit [--fail N]... [--fuse N] [--store DIR] replay, run [--workers N], restore, check or made N
+$ --store d --fuse 1 replay
+> hotexit 1
+! 2 usage: hotexit [--fail N]... [--fuse N] [--store DIR] replay, run [--workers N], restore, check or made N
+$ --fail 1 --store d replay
+> hotexit 1
+! 2 usage: hotexit [--fail N]... [--fuse N] [--store DIR] replay, run [--workers N], restore, check or made N
+$ --store d --store d replay
+> hotexit 1
+! 2 usage: hotexit [--fail N]... [--fuse N] [--store DIR] replay, run [--workers N], restore, check or made N
+$ --store  replay
+> hotexit 1
+! 2 usage: hotexit [--fail N]... [--fuse N] [--store DIR] replay, run [--workers N], restore, check or made N
+$ --store d made
+> hotexit 1
+! 2 usage: hotexit [--fail N]... [--fuse N] [--store DIR] replay, run [--workers N], restore, check or made N
 $ play
 > hotexit 1
 ! 2 usage: hotexit [--fail N]... [--fuse N] [--store DIR] replay, run [--workers N], restore, check or made N

@@ -2,6 +2,7 @@
 
 use crate::playing::{Ran, run, run_over};
 use hx_base::EscapeError;
+use hx_filedisk::Stores;
 use hx_io::{MemSink, MemSource, ReadAllError};
 use hx_script::{ScriptError, Why};
 use hx_top::{End, NoWords, report, run_to_exit};
@@ -59,7 +60,7 @@ fn a_last_line_wants_its_end(rt: HostRuntime) -> Result<(), Fail> {
     Ok(())
 }
 
-fn without_words<R: Threads + Wait + Sync>(
+fn without_words<R: Threads + Wait + Sync + Stores>(
     rt: &R,
     alloc: Global,
     why: NoWords,

@@ -1,12 +1,12 @@
 -- The words, setting by setting.
-use Rattle.std.specs.Prelude.{◌≡◌, ◌<◌, ◌+◌, ℕ, nat_le, Bool, true, false, ◌&&◌, cond, List, [], ◌∷◌, ◌++◌, length, drop, count_by, Option, Some, None, String, refl}
+use Rattle.std.specs.Prelude.{◌≡◌, ◌<◌, ◌+◌, ℕ, zero, suc, nat_le, Bool, true, false, ◌&&◌, ◌||◌, is_some, cond, List, [], ◌∷◌, ◌++◌, length, drop, count_by, Option, Some, None, String, refl}
 use Rattle.std.specs.declared.alloc.Global.{Global}
 use Rattle.std.proofs.Common.{sym, ◌∙◌, ap, arith, append_assoc}
 use Rattle.std.proofs.lemmas.List.{append-nil}
 use Rattle.std.proofs.lemmas.List.Sums.{sum_by-cons}
 use Rattle.hx_top.specs.declared.words.Setting.{Setting}
 use Rattle.hx_top.specs.declared.words.Setting.TheVariants.{Fail, Fuse}
-use Rattle.hx_top.specs.Words.{are_few, command_in, fails_of, first_setting, fuse_of, is_fail, is_fuse, later_of, order_in, order_of, run_in, run_of, settings_before, texts_of, workers_behind}
+use Rattle.hx_top.specs.Words.{are_few, behind_disk, command_in, fails_of, first_setting, fuse_of, has_disk, is_fail, is_fuse, later_of, order_in, order_of, run_in, run_of, settings_before, settings_in, store_in, stored_in, texts_of, workers_behind}
 
 -- where a setting stands in front, and where none does
 pub record More (words : List (String Global)) (s : Setting) : Type 0 where
@@ -48,19 +48,19 @@ pub rest_is : (words rest : List (String Global)) → first_setting (texts_of re
 rest_is words rest none command = sym (none_more rest none).1 ∙ command
 
 -- the order of words with few settings, and of words with too many
-pub order_few : (words : List (List ℕ)) → are_few (settings_before words) ≡ true → order_in words ≡ order_of (command_in words)
+pub order_few : (words : List (List ℕ)) → has_disk words ≡ true → order_in words ≡ order_of (behind_disk words)
 unfolding order_in
 order_few words few = rw few
 
-pub order_many : (words : List (List ℕ)) → are_few (settings_before words) ≡ false → order_in words ≡ None
+pub order_many : (words : List (List ℕ)) → has_disk words ≡ false → order_in words ≡ None
 unfolding order_in
 order_many words many = rw many
 
-pub run_few : (words : List (List ℕ)) → are_few (settings_before words) ≡ true → run_in words ≡ run_of (command_in words)
+pub run_few : (words : List (List ℕ)) → has_disk words ≡ true → run_in words ≡ run_of (behind_disk words)
 unfolding run_in
 run_few words few = rw few
 
-pub run_many : (words : List (List ℕ)) → are_few (settings_before words) ≡ false → run_in words ≡ None
+pub run_many : (words : List (List ℕ)) → has_disk words ≡ false → run_in words ≡ None
 unfolding run_in
 run_many words many = rw many
 
@@ -122,3 +122,34 @@ no_order (a ∷ b ∷ c ∷ words) one two = refl
 pub counts_once : (s : Setting) → cond (is_fail s) 1 0 + cond (is_fuse s) 1 0 ≡ 1
 counts_once (Fail n) = refl
 counts_once (Fuse n) = refl
+
+-- the words behind a folder
+pub texts_drop : (n : ℕ) (words : List (String Global)) → texts_of (drop n words) ≡ drop n (texts_of words)
+texts_drop zero words = refl
+texts_drop (suc n) [] = refl
+texts_drop (suc n) (word ∷ words) = texts_drop n words
+
+pub no_store : (words : List (String Global)) → length words < 2 → false ≡ is_some (store_in (texts_of words))
+no_store [] few = refl
+no_store (a ∷ []) few = refl
+no_store (a ∷ b ∷ words) few = absurd (omega (arith, few))
+
+-- where a folder is named, and where none is
+pub stored_has : (words : List (List ℕ)) → true ≡ is_some (store_in words) → true ≡ has_disk words
+stored_has words is = rw (sym is)
+
+pub stored_behind : (words : List (List ℕ)) → true ≡ is_some (store_in words) → drop 2 words ≡ behind_disk words
+stored_behind words is = rw (sym is)
+
+pub unstored_has : (words : List (List ℕ)) → false ≡ is_some (store_in words) → are_few (settings_before words) ≡ has_disk words
+unstored_has words is = rw (sym is)
+
+pub unstored_behind : (words : List (List ℕ)) → false ≡ is_some (store_in words) → command_in words ≡ behind_disk words
+unstored_behind words is = rw (sym is)
+
+-- words that are no command line name no folder and have no settings; others have those that stand in front
+pub none_chosen : (words : List (List ℕ)) → (is_some (order_in words) || is_some (run_in words)) ≡ false → (stored_in words ≡ None) × (settings_in words ≡ [])
+none_chosen words is = (rw is, rw is)
+
+pub some_chosen : (words : List (List ℕ)) → (is_some (order_in words) || is_some (run_in words)) ≡ true → (stored_in words ≡ store_in words) × (settings_in words ≡ settings_before words)
+some_chosen words is = (rw is, rw is)

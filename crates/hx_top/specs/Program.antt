@@ -1,11 +1,13 @@
 -- What a run of the program has done, from its words and streams to its end.
-use Rattle.std.specs.Prelude.{◌≡◌, ℕ, true, List, reverse, Option, Some, None}
+use Rattle.std.specs.Prelude.{◌≡◌, ℕ, Bool, true, IsTrue, List, reverse, Option, Some, None}
+use Rattle.hx_disk.specs.File.{FileState}
 use Rattle.hx_events.specs.declared.life.Life.{Life}
 use Rattle.hx_faults.specs.Faults.{Rose}
 use Rattle.hx_guarded_laws.specs.Lives.{HaveKept}
 use Rattle.hx_io.specs.Streams.{AddsFront, added}
 use Rattle.hx_lives.specs.Calls.{HasGoneOn}
 use Rattle.hx_lives.specs.Chained.{faults_of as faults_over}
+use Rattle.hx_lives.specs.Course.{Past}
 use Rattle.hx_memdisk.specs.declared.course.Plan.{Plan}
 use Rattle.hx_memdisk.specs.declared.memdisk.MemDisk.{MemDisk}
 use Rattle.hx_memdisk.specs.MemDisk.{course_of, faults_of, files_of, past_of, recorded}
@@ -41,21 +43,47 @@ pub record IsNewDisk (words : List (List ℕ)) (disk : MemDisk) : Type 0 where
   pub unused : recorded disk ≡ 0
   pub no_fault : faults_of disk ≡ 0
 
--- The words were served on a new disk in memory: some lives were led on it, the oldest first, and what was printed behind what stood
--- there `before` is their text, or a front of it where a write failed. They are the lives of the windows of the script that was read
--- for a run's words, and else of its steps, and guarded ones have kept what guarded lives keep.
-pub record HasServed (words : List (List ℕ)) (input before now : List ℕ) (end : End) : Type 0 where
-  pub disk : MemDisk
-  pub back : MemDisk
-  pub lives : List Life
-  pub new : IsNewDisk words disk
-  pub runs : HasGoneOn recorded past_of faults_of disk back
+-- The words were served on a disk that has the past `past`, from the moment a on and from the count of faults `start`: these lives
+-- were led, the oldest first, and the disk came to the moment b and to the count `count`. What was printed behind what stood there
+-- `before` is their text, or a front of it where a write failed. They are the lives of the windows of the script that was read for a
+-- run's words, and else of its steps, and where the disk tells, guarded ones have kept what guarded lives keep.
+pub record HasServed (picked : ℕ → FileState → List ℕ) (tells : Bool) (past : Past) (words : List (List ℕ)) (input before now : List ℕ) (end : End) (a start b count : ℕ) (lives : List Life) : Type 0 where
   pub done : end ≡ Done → added before now ≡ printed_by (run_in words) words input lives
   pub front : end ≡ WriteFault → AddsFront (printed_by (run_in words) words input lives) before now
-  pub played : (task : Task) → run_in words ≡ None → order_in words ≡ Some (Play task) → IsOfInput end → HavePlayed pick_of true (past_of back) task input end (recorded disk) (faults_of disk) (recorded back) (faults_of back) (reverse lives)
-  pub ran : (order : RunOrder) → run_in words ≡ Some order → IsOfInput end → HasBeenRun pick_of true (past_of back) order.guarded input end (recorded disk) (faults_of disk) (recorded back) (faults_of back) (reverse lives)
-  pub kept : HaveKept (past_of back) (recorded back) (reverse lives)
-  pub open_fault : end ≡ OpenFault → Rose (faults_over (faults_of disk) (reverse lives)) (faults_of back)
+  pub played : (task : Task) → run_in words ≡ None → order_in words ≡ Some (Play task) → IsOfInput end → HavePlayed picked tells past task input end a start b count (reverse lives)
+  pub ran : (order : RunOrder) → run_in words ≡ Some order → IsOfInput end → HasBeenRun picked tells past order.guarded input end a start b count (reverse lives)
+  pub kept : IsTrue tells → HaveKept past b (reverse lives)
+  pub open_fault : end ≡ OpenFault → Rose (faults_over start (reverse lives)) count
+
+-- the same on this disk, which has gone on to another one
+pub record HasServedOn {D : Type 0} (picked : ℕ → FileState → List ℕ) (tells : Bool) (time : D → ℕ) (past : D → Past) (failures : D → ℕ) (disk : D) (words : List (List ℕ)) (input before now : List ℕ) (end : End) : Type 0 where
+  pub back : D
+  pub lives : List Life
+  pub runs : HasGoneOn time past failures disk back
+  pub served : HasServed picked tells (past back) words input before now end (time disk) (failures disk) (time back) (failures back) lives
+
+-- the words were served on a new disk in memory, which fails as they plan it
+pub record ServedInMemory (words : List (List ℕ)) (input before now : List ℕ) (end : End) : Type 0 where
+  pub disk : MemDisk
+  pub new : IsNewDisk words disk
+  pub on : HasServedOn pick_of true recorded past_of faults_of disk words input before now end
+
+-- the words were served on some disk, of which nothing more is known: what the files of a folder hold is told by no clause
+pub record ServedInFolder (words : List (List ℕ)) (input before now : List ℕ) (end : End) : Type 0 where
+  pub picked : ℕ → FileState → List ℕ
+  pub tells : Bool
+  pub past : Past
+  pub a : ℕ
+  pub start : ℕ
+  pub b : ℕ
+  pub count : ℕ
+  pub lives : List Life
+  pub served : HasServed picked tells past words input before now end a start b count lives
+
+-- the words were served on the disk that they name: on the files of a folder, or in memory
+abbrev pub ServedBy : Option (List ℕ) → (words : List (List ℕ)) (input before now : List ℕ) (end : End) → Type 0
+ServedBy (Some folder) words input before now end = ServedInFolder words input before now end
+ServedBy None words input before now end = ServedInMemory words input before now end
 
 -- how a program ends whose words could not be had
 abbrev pub end_without : NoWords → End

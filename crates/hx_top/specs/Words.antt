@@ -1,5 +1,5 @@
 -- Which words are a command line, and what they ask for. They are this project's own.
-use Rattle.std.specs.Prelude.{◌≡◌, ◌≤◌, ℕ, nat_le, nat_lt, Bool, true, false, ◌&&◌, ◌||◌, List, [], ◌∷◌, count_by, bytes_eq, codes, string_bytes, String, if◌then◌else◌, Option, Some, None, is_some}
+use Rattle.std.specs.Prelude.{◌≡◌, ◌≤◌, ℕ, nat_le, nat_lt, Bool, true, false, ◌&&◌, ◌||◌, List, [], ◌∷◌, length, drop, count_by, bytes_eq, codes, string_bytes, String, if◌then◌else◌, Option, Some, None, is_some}
 use Rattle.std.specs.declared.alloc.Global.{Global}
 use Rattle.hx_base.specs.Decimals.{decimal_value}
 use Rattle.hx_top.specs.declared.words.Setting.{Setting}
@@ -7,7 +7,7 @@ use Rattle.hx_top.specs.declared.words.Setting.TheVariants.{Fail, Fuse}
 use Rattle.hx_top.specs.declared.words.Task.{Task}
 use Rattle.hx_top.specs.declared.words.Task.TheVariants.{Replay, Restore, Made}
 use Rattle.hx_top.specs.declared.words.DiskChoice.{DiskChoice}
-use Rattle.hx_top.specs.declared.words.DiskChoice.TheVariants.{Memory}
+use Rattle.hx_top.specs.declared.words.DiskChoice.TheVariants.{Memory, Store}
 use Rattle.hx_top.specs.declared.words.Order.{Order}
 use Rattle.hx_top.specs.declared.words.Order.TheVariants.{Check, Play}
 use Rattle.hx_top.specs.declared.words.RunOrder.{RunOrder}
@@ -55,6 +55,11 @@ abbrev pub command_in : List (List ℕ) → List (List ℕ)
 command_in (word ∷ number ∷ words) = command_if (setting_in word number) (word ∷ number ∷ words) (command_in words)
 command_in words = words
 
+-- the folder that the first two words name: any text but the empty one behind `--store`
+abbrev pub store_in : List (List ℕ) → Option (List ℕ)
+store_in (word ∷ folder ∷ words) = if bytes_eq word (codes "--store") && nat_lt 0 (length folder) then Some folder else None
+store_in words = None
+
 abbrev pub is_fail : Setting → Bool
 is_fail (Fail n) = true
 is_fail (Fuse n) = false
@@ -66,6 +71,14 @@ is_fuse (Fuse n) = true
 -- at most 64 failing calls are named, and one fuse
 abbrev pub are_few : List Setting → Bool
 are_few settings = nat_le (count_by is_fail settings) 64 && nat_le (count_by is_fuse settings) 1
+
+-- The words in front name a disk: a folder, or one in memory, whose settings aren't too many.
+abbrev pub has_disk : List (List ℕ) → Bool
+has_disk words = is_some (store_in words) || are_few (settings_before words)
+
+-- the words behind those of the disk: nothing but the command stands behind a folder
+abbrev pub behind_disk : List (List ℕ) → List (List ℕ)
+behind_disk words = if is_some (store_in words) then drop 2 words else command_in words
 
 -- a number from 1 to 1,000
 abbrev pub made_order : Option ℕ → Option Order
@@ -107,7 +120,7 @@ IsWorkers n = (1 ≤ n) × (n ≤ 4)
 
 -- what the words ask for, if they are a command line but a run's
 unfoldable pub order_in : List (List ℕ) → Option Order
-order_in words = if are_few (settings_before words) then order_of (command_in words) else None
+order_in words = if has_disk words then order_of (behind_disk words) else None
 
 -- a number of workers, from 1 to 4
 abbrev pub workers_of : Option ℕ → Option ℕ
@@ -147,7 +160,7 @@ run_of (word ∷ words) = if is_run_word word then run_behind words else None
 
 -- the run that the words ask for, if they are a run's command line
 unfoldable pub run_in : List (List ℕ) → Option RunOrder
-run_in words = if are_few (settings_before words) then run_of (command_in words) else None
+run_in words = if has_disk words then run_of (behind_disk words) else None
 
 -- the numbers of the calls that fail, in their order
 abbrev pub fails_of : List Setting → List ℕ
@@ -170,6 +183,11 @@ fuse_of (Fuse n ∷ settings) = later_of (Some n) (fuse_of settings)
 abbrev pub settings_in : List (List ℕ) → List Setting
 settings_in words = if is_some (order_in words) || is_some (run_in words) then settings_before words else []
 
+-- The folder that counts: none where the words are no command line.
+abbrev pub stored_in : List (List ℕ) → Option (List ℕ)
+stored_in words = if is_some (order_in words) || is_some (run_in words) then store_in words else None
+
 -- the disk that the words name
 abbrev pub IsChosen : List (List ℕ) → DiskChoice → Type 0
-IsChosen words (Memory plan) = (plan.fails.items ≡ fails_of (settings_in words)) × (plan.fuse ≡ fuse_of (settings_in words))
+IsChosen words (Memory plan) = (stored_in words ≡ None) × (plan.fails.items ≡ fails_of (settings_in words)) × (plan.fuse ≡ fuse_of (settings_in words))
+IsChosen words (Store folder) = stored_in words ≡ Some (string_bytes folder)

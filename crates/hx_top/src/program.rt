@@ -6,9 +6,9 @@ ghost use Rattle.hx_faults.specs.Faults.{Rose};
 ghost use Rattle.hx_io.specs.Streams.{Grows, added};
 ghost use Rattle.hx_script.specs.declared.why.Why.{Why};
 ghost use Rattle.hx_top.specs.Ends.{error_text, status_of};
-ghost use Rattle.hx_top.specs.Program.{HasServed, IsNewDisk, end_without, refusal_by};
+ghost use Rattle.hx_top.specs.Program.{HasServedOn, ServedBy, end_without, refusal_by};
 ghost use Rattle.hx_top.specs.Whole.{IsOfInput, IsSilent};
-ghost use Rattle.hx_top.specs.Words.{order_in, run_in, texts_of};
+ghost use Rattle.hx_top.specs.Words.{order_in, run_in, stored_in, texts_of};
 
 use crate::ends::status;
 use crate::runs::top_run;
@@ -16,6 +16,8 @@ use crate::telling::report;
 use crate::whole::{End, Finished, top};
 use crate::words::{DiskChoice, disk_words, is_run};
 use hx_actors::OpenGate;
+use hx_disk::Disk;
+use hx_filedisk::Stores;
 use hx_io::{Sink, Source};
 use hx_memdisk::MemDisk;
 use std::alloc::{AllocError, Global};
@@ -40,16 +42,8 @@ pub struct Exit {
     pub code: ExitCode,
 }
 
-/// The disk that the words name, as new.
-fn chosen_disk(alloc: Global, words: &[String]) -> Result<MemDisk, AllocError>
-    ensures { IfOk result (IsNewDisk (texts_of words.now)) }
-{
-    let DiskChoice::Memory(plan) = disk_words(alloc, words)?;
-    MemDisk::new(alloc, plan)
-}
-
-/// The end alone: a disk in memory and its lives are gone with the process.
-fn ended(finished: Finished<MemDisk>) -> End
+/// The end alone: the disk and its lives are gone with the process.
+fn ended<D: Drop>(finished: Finished<D>) -> End
     ensures { result ≡ finished.end }
 {
     let Finished {
@@ -60,8 +54,36 @@ fn ended(finished: Finished<MemDisk>) -> End
     end
 }
 
-/// Serves the words on the disk that they name: `top_run` where they ask for a run, and `top` for all others.
-pub fn serve<R: Threads + Wait + Sync, S: Source, K: Sink>(
+/// Serves the words on this disk: `top_run` where they ask for a run, and `top` for all others.
+fn serve_on<R: Threads + Wait + Sync, S: Source, K: Sink, D: Disk + Drop + Send>(
+    rt: &R,
+    alloc: Global,
+    words: &[String],
+    source: &mut S,
+    sink: &mut K,
+    disk: D,
+) -> End
+    ensures usage { result ≡ End.Usage → (order_in (texts_of words.now) ≡ None) × (run_in (texts_of words.now) ≡ None) }
+    ensures no_command { order_in (texts_of words.now) ≡ None → run_in (texts_of words.now) ≡ None → (result ≡ End.Usage) ⊎ (result ≡ End.NoMemory) }
+    ensures given { Grows (S.given source.old) (S.given source.new) }
+    ensures bad_script { (line : ℕ) (why : Why) → result ≡ End.BadScript line why → refusal_by (run_in (texts_of words.now)) (texts_of words.now) (added (S.given source.old) (S.given source.new)) ≡ Some (line, why) }
+    ensures of_input { IsOfInput result → refusal_by (run_in (texts_of words.now)) (texts_of words.now) (added (S.given source.old) (S.given source.new)) ≡ None }
+    ensures taken { Grows (K.taken sink.old) (K.taken sink.new) }
+    ensures silent { IsSilent result → sink.new ≡ sink.old }
+    ensures served { HasServedOn D.picked D.tells D.time D.past D.failures disk (texts_of words.now) (added (S.given source.old) (S.given source.new)) (K.taken sink.old) (K.taken sink.new) result }
+    ensures read_fault { result ≡ End.ReadFault → Rose (S.failures source.old) (S.failures source.new) }
+    ensures write_fault { result ≡ End.WriteFault → Rose (K.failures sink.old) (K.failures sink.new) }
+    ensures no_fault { result ≡ End.Done → (S.failures source.new ≡ S.failures source.old) × (K.failures sink.new ≡ K.failures sink.old) }
+{
+    if is_run(words) {
+        ended(top_run(rt, alloc, words, source, sink, disk, &OpenGate))
+    } else {
+        ended(top(alloc, words, source, sink, disk))
+    }
+}
+
+/// Serves the words on the disk that they name: on the files of a folder, or in memory.
+pub fn serve<R: Threads + Wait + Sync + Stores, S: Source, K: Sink>(
     rt: &R,
     alloc: Global,
     words: &[String],
@@ -75,28 +97,31 @@ pub fn serve<R: Threads + Wait + Sync, S: Source, K: Sink>(
     ensures bad_script { (line : ℕ) (why : Why) → result ≡ End.BadScript line why → refusal_by (run_in (texts_of words.now)) (texts_of words.now) (added (S.given source.old) (S.given source.new)) ≡ Some (line, why) }
     ensures of_input { IsOfInput result → refusal_by (run_in (texts_of words.now)) (texts_of words.now) (added (S.given source.old) (S.given source.new)) ≡ None }
 
-    // What was written, over which lives, on a disk that fails as the words plan it.
+    // What was written, over which lives, on the disk that the words name.
     ensures taken { Grows (K.taken sink.old) (K.taken sink.new) }
     ensures silent { IsSilent result → sink.new ≡ sink.old }
-    ensures served { result ≢ End.NoMemory → HasServed (texts_of words.now) (added (S.given source.old) (S.given source.new)) (K.taken sink.old) (K.taken sink.new) result }
+    ensures served { result ≢ End.NoMemory → ServedBy (stored_in (texts_of words.now)) (texts_of words.now) (added (S.given source.old) (S.given source.new)) (K.taken sink.old) (K.taken sink.new) result }
 
     // Faults of the streams have their causes.
     ensures read_fault { result ≡ End.ReadFault → Rose (S.failures source.old) (S.failures source.new) }
     ensures write_fault { result ≡ End.WriteFault → Rose (K.failures sink.old) (K.failures sink.new) }
     ensures no_fault { result ≡ End.Done → (S.failures source.new ≡ S.failures source.old) × (K.failures sink.new ≡ K.failures sink.old) }
 {
-    let Ok(disk) = chosen_disk(alloc, words) else {
-        return End::NoMemory;
-    };
-    if is_run(words) {
-        ended(top_run(rt, alloc, words, source, sink, disk, &OpenGate))
-    } else {
-        ended(top(alloc, words, source, sink, disk))
+    match disk_words(alloc, words) {
+        Ok(DiskChoice::Memory(plan)) => match MemDisk::new(alloc, plan) {
+            Ok(disk) => serve_on(rt, alloc, words, source, sink, disk),
+            Err(AllocError) => End::NoMemory,
+        },
+        Ok(DiskChoice::Store(folder)) => match rt.store(alloc, folder) {
+            Ok(disk) => serve_on(rt, alloc, words, source, sink, disk),
+            Err(AllocError) => End::NoMemory,
+        },
+        Err(AllocError) => End::NoMemory,
     }
 }
 
 /// The end of the words, or of there being none.
-fn end_of<R: Threads + Wait + Sync, S: Source, K: Sink>(
+fn end_of<R: Threads + Wait + Sync + Stores, S: Source, K: Sink>(
     rt: &R,
     alloc: Global,
     words: Result<Vec<String>, NoWords>,
@@ -111,7 +136,7 @@ fn end_of<R: Threads + Wait + Sync, S: Source, K: Sink>(
     ensures of_input { IfOk words (λ ws. IsOfInput result → refusal_by (run_in (texts_of ws.items)) (texts_of ws.items) (added (S.given source.old) (S.given source.new)) ≡ None) }
     ensures taken { Grows (K.taken sink.old) (K.taken sink.new) }
     ensures silent { IsSilent result → sink.new ≡ sink.old }
-    ensures served { IfOk words (λ ws. result ≢ End.NoMemory → HasServed (texts_of ws.items) (added (S.given source.old) (S.given source.new)) (K.taken sink.old) (K.taken sink.new) result) }
+    ensures served { IfOk words (λ ws. result ≢ End.NoMemory → ServedBy (stored_in (texts_of ws.items)) (texts_of ws.items) (added (S.given source.old) (S.given source.new)) (K.taken sink.old) (K.taken sink.new) result) }
     ensures read_fault { result ≡ End.ReadFault → Rose (S.failures source.old) (S.failures source.new) }
     ensures write_fault { result ≡ End.WriteFault → Rose (K.failures sink.old) (K.failures sink.new) }
     ensures no_fault { result ≡ End.Done → (S.failures source.new ≡ S.failures source.old) × (K.failures sink.new ≡ K.failures sink.old) }
@@ -126,7 +151,7 @@ fn end_of<R: Threads + Wait + Sync, S: Source, K: Sink>(
 /// The whole program: serves the words, tells the end on standard error, and gives the exit status.
 ///
 /// A line that standard error doesn't take is lost, and changes nothing else.
-pub fn run_to_exit<R: Threads + Wait + Sync, S: Source, K: Sink, E: Sink>(
+pub fn run_to_exit<R: Threads + Wait + Sync + Stores, S: Source, K: Sink, E: Sink>(
     rt: &R,
     alloc: Global,
     words: Result<Vec<String>, NoWords>,
@@ -147,7 +172,7 @@ pub fn run_to_exit<R: Threads + Wait + Sync, S: Source, K: Sink, E: Sink>(
     ensures of_input { IfOk words (λ ws. IsOfInput result.end → refusal_by (run_in (texts_of ws.items)) (texts_of ws.items) (added (S.given source.old) (S.given source.new)) ≡ None) }
     ensures taken { Grows (K.taken sink.old) (K.taken sink.new) }
     ensures silent { IsSilent result.end → sink.new ≡ sink.old }
-    ensures served { IfOk words (λ ws. result.end ≢ End.NoMemory → HasServed (texts_of ws.items) (added (S.given source.old) (S.given source.new)) (K.taken sink.old) (K.taken sink.new) result.end) }
+    ensures served { IfOk words (λ ws. result.end ≢ End.NoMemory → ServedBy (stored_in (texts_of ws.items)) (texts_of ws.items) (added (S.given source.old) (S.given source.new)) (K.taken sink.old) (K.taken sink.new) result.end) }
     ensures read_fault { result.end ≡ End.ReadFault → Rose (S.failures source.old) (S.failures source.new) }
     ensures write_fault { result.end ≡ End.WriteFault → Rose (K.failures sink.old) (K.failures sink.new) }
     ensures no_fault { result.end ≡ End.Done → (S.failures source.new ≡ S.failures source.old) × (K.failures sink.new ≡ K.failures sink.old) }

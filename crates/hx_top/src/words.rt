@@ -1,8 +1,8 @@
 //! The words behind the program's name.
 
-ghost use Rattle.std.specs.Prelude.{◌≡◌, ◌≤◌, ◌&&◌, ◌++◌, nat_le, [], ◌∷◌, drop, length, is_some, None, IfOk, OnOk, IfSome};
+ghost use Rattle.std.specs.Prelude.{◌≡◌, ◌≤◌, ◌&&◌, ◌++◌, nat_le, [], ◌∷◌, drop, length, is_some, Some, None, string_bytes, IfOk, OnOk, IfSome};
 ghost use Rattle.hx_base.specs.Decimals.{decimal_value};
-ghost use Rattle.hx_top.specs.Words.{IsChosen, IsOrder, IsWorkers, are_few, command_in, fails_of, first_setting, fuse_of, is_fail, is_fuse, later_of, is_guarded_word, is_run_word, made_order, order_in, order_of, plain_order, run_behind, run_in, run_of, run_with, second_order, setting_in, setting_of, settings_before, texts_of, workers_behind, workers_in, workers_of};
+ghost use Rattle.hx_top.specs.Words.{IsChosen, IsOrder, IsWorkers, are_few, behind_disk, command_in, fails_of, first_setting, fuse_of, has_disk, is_fail, is_fuse, later_of, is_guarded_word, is_run_word, made_order, order_in, order_of, plain_order, run_behind, run_in, run_of, run_with, second_order, setting_in, setting_of, settings_before, store_in, texts_of, workers_behind, workers_in, workers_of};
 
 use hx_base::read_decimal;
 use hx_memdisk::Plan;
@@ -62,6 +62,9 @@ pub struct RunOrder {
 pub enum DiskChoice {
     /// One in memory, which fails as it is planned.
     Memory(Plan),
+
+    /// The files of this folder.
+    Store(String),
 }
 
 fn setting_of(word: &[u8], number: u64) -> Option<Setting>
@@ -170,8 +173,26 @@ fn are_few(fails: usize, fuses: usize) -> bool
     fails <= MOST_FAILS && fuses <= MOST_FUSES
 }
 
-/// The words behind those of the disk, or none where these are too many.
-fn command_in(words: &[String]) -> Option<&[String]>
+/// The folder that the first two words name.
+fn store_in(words: &[String]) -> Option<&String>
+    ensures some { is_some result ≡ is_some (store_in (texts_of words.now)) }
+    ensures folder { IfSome result (λ folder. store_in (texts_of words.now) ≡ Some (string_bytes folder.now)) }
+    ensures two { IfSome result (λ _. 2 ≤ length words.now) }
+{
+    match words {
+        [word, folder, ..] => {
+            if word.as_bytes() == b"--store".as_slice() && !folder.is_empty() {
+                Some(folder)
+            } else {
+                None
+            }
+        }
+        _ => None,
+    }
+}
+
+/// The words behind the settings of a disk in memory, or none where these are too many.
+fn behind_settings(words: &[String]) -> Option<&[String]>
     ensures few { is_some result ≡ are_few (settings_before (texts_of words.now)) }
     ensures command { IfSome result (λ command. texts_of command.now ≡ command_in (texts_of words.now)) }
 {
@@ -187,6 +208,17 @@ fn command_in(words: &[String]) -> Option<&[String]>
         Some(rest)
     } else {
         None
+    }
+}
+
+/// The words behind those of the disk, or none where these are no disk.
+fn command_in(words: &[String]) -> Option<&[String]>
+    ensures few { is_some result ≡ has_disk (texts_of words.now) }
+    ensures command { IfSome result (λ command. texts_of command.now ≡ behind_disk (texts_of words.now)) }
+{
+    match store_in(words) {
+        Some(_) => Some(behind_setting(words)),
+        None => behind_settings(words),
     }
 }
 
@@ -351,10 +383,11 @@ fn empty_plan(alloc: Global) -> Plan
 pub fn disk_words(alloc: Global, words: &[String]) -> Result<DiskChoice, AllocError>
     ensures { IfOk result (IsChosen (texts_of words.now)) }
 {
-    let plan = if order_in(words).is_some() || is_run(words) {
-        planned(alloc, words)?
-    } else {
-        empty_plan(alloc)
-    };
-    Ok(DiskChoice::Memory(plan))
+    if order_in(words).is_none() && !is_run(words) {
+        return Ok(DiskChoice::Memory(empty_plan(alloc)));
+    }
+    match store_in(words) {
+        Some(folder) => Ok(DiskChoice::Store(folder.clone()?)),
+        None => Ok(DiskChoice::Memory(planned(alloc, words)?)),
+    }
 }

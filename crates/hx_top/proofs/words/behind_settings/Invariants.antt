@@ -1,7 +1,7 @@
 -- The settings so far are counted, and the words behind them are left.
 use Rattle.std.proofs.Common.{◌≡◌, ◌≤◌, ◌+◌, length, count_by}
 use Rattle.hx_top.specs.Words.{command_in, is_fail, is_fuse, settings_before, texts_of}
-use Rattle.hx_top.proofs.words.command_in.Given as goal
+use Rattle.hx_top.proofs.words.behind_settings.Given as goal
 
 abbrev pub invariant-settings : goal.invariant-settings
 invariant-settings l = record {
