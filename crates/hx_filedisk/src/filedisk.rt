@@ -1,13 +1,14 @@
 //! The folder as a disk: its failures are counted, and its room is kept.
 
-ghost use Rattle.hx_faults.specs.Faults.{HasCause};
+ghost use Rattle.std.specs.Prelude.{◌≤◌};
+ghost use Rattle.hx_faults.specs.Faults.{HasCause, Rose};
 
 use crate::folder::{Folder, Folders};
 use hx_disk::{Disk, DiskFailed, FileNo};
 use hx_etag::Stat;
 use hx_faults::raised;
 use std::alloc::{AllocError, Global};
-use std::io::{self, ErrorKind};
+use std::io;
 
 /// The files of a folder as a disk, each under the three digits of its number.
 ///
@@ -53,21 +54,28 @@ impl<F: Folders + Drop> FileDisk<F> {
     }
 }
 
-/// What a call on the files came to, as the disk answers it: a failure is counted.
+/// A failure, which is counted.
+fn failed(faults: &mut u64) -> DiskFailed
+    ensures later { faults.old ≤ faults.new }
+    ensures rose { Rose faults.old faults.new }
+{
+    *faults = raised(*faults);
+    DiskFailed
+}
+
+/// What a call on the files came to, as the disk answers it.
 fn counted<T>(faults: &mut u64, outcome: io::Result<T>) -> Result<T, DiskFailed>
     ensures { HasCause faults.old faults.new result }
 {
     match outcome {
         Ok(value) => Ok(value),
-        Err(_) => {
-            *faults = raised(*faults);
-            Err(DiskFailed)
-        }
+        Err(_) => Err(failed(faults)),
     }
 }
 
 impl<F: Folders + Drop> Disk for FileDisk<F> {
     ghost use Rattle.std.specs.Prelude.{refl, false, ◌≤◌, ◌<◌, ◌+◌, length, OnOk, OnErr, IfOk};
+    ghost use Rattle.hx_disk.specs.Disk.{ChangesOnly, UsesCalls};
     ghost use Rattle.hx_filedisk.specs.FileDisk.{untold, untold_sound};
 
     ghost tells = { false };
@@ -125,10 +133,16 @@ impl<F: Folders + Drop> Disk for FileDisk<F> {
         counted(&mut self.faults, synced)
     }
 
-    /// Always a failure: a modification time that is set would be no time of a write, and no other program does it here.
-    fn set_mtime(&mut self, _file: FileNo, _mtime: u64) -> Result<(), DiskFailed> {
+    /// Always a failure: the times of these files are those of their last writes.
+    fn set_mtime(&mut self, _file: FileNo, _mtime: u64) -> Result<(), DiskFailed>
+        requires room_calls { 0 < self.old.room_calls }
+        ensures never { OnOk result ⊥ }
+        ensures only { ChangesOnly (λ _. 0) (λ _ _ _. untold) (λ _ _. untold) _file self.old self.new }
+        ensures room { UsesCalls 1 (record { file = self.old.room_file; end = self.old.room_end; calls = self.old.room_calls }) (record { file = self.new.room_file; end = self.new.room_end; calls = self.new.room_calls }) }
+        ensures cause { HasCause self.old.faults self.new.faults result }
+    {
         self.room_calls -= 1;
-        counted(&mut self.faults, Err(ErrorKind::Unsupported.into()))
+        Err(failed(&mut self.faults))
     }
 
     fn crash(&mut self, _pick: u64) -> Result<(), AllocError> {

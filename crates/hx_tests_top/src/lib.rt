@@ -23,6 +23,8 @@ mod sessions_of_blocks;
 #[cfg(test)]
 mod sessions_of_ends;
 #[cfg(test)]
+mod sessions_of_exits;
+#[cfg(test)]
 mod sessions_of_guards;
 #[cfg(test)]
 mod sessions_of_saves;

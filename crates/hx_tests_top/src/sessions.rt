@@ -8,6 +8,7 @@ use crate::playing::{Ran, number, parted, run, text_of};
 use crate::sessions_of_backups::BACKUPS;
 use crate::sessions_of_blocks::BLOCKS;
 use crate::sessions_of_ends::ENDS;
+use crate::sessions_of_exits::EXITS;
 use crate::sessions_of_guards::GUARDS;
 use crate::sessions_of_saves::SAVES;
 use hx_filedisk::Stores;
@@ -151,6 +152,7 @@ fn each_session_prints_what_was_worked_out(rt: HostRuntime) -> Result<(), Fail> 
     play_all(&rt, alloc, BACKUPS)?;
     play_all(&rt, alloc, BLOCKS)?;
     play_all(&rt, alloc, GUARDS)?;
+    play_all(&rt, alloc, EXITS)?;
     play_all(&rt, alloc, ENDS)
 }
 

@@ -88,6 +88,30 @@ $ --store  replay
 $ --store d made
 > hotexit 1
 ! 2 usage: hotexit [--fail N]... [--fuse N] [--store DIR] replay, run [--workers N], restore, check or made N
+$ exit
+> hotexit 1
+! 2 usage: hotexit [--fail N]... [--fuse N] [--store DIR] replay, run [--workers N], restore, check or made N
+$ exit off
+> hotexit 1
+! 2 usage: hotexit [--fail N]... [--fuse N] [--store DIR] replay, run [--workers N], restore, check or made N
+$ exit on quit
+> hotexit 1
+! 2 usage: hotexit [--fail N]... [--fuse N] [--store DIR] replay, run [--workers N], restore, check or made N
+$ exit onexit quit
+> hotexit 1
+! 2 usage: hotexit [--fail N]... [--fuse N] [--store DIR] replay, run [--workers N], restore, check or made N
+$ exit off leave
+> hotexit 1
+! 2 usage: hotexit [--fail N]... [--fuse N] [--store DIR] replay, run [--workers N], restore, check or made N
+$ exit off quit mac last
+> hotexit 1
+! 2 usage: hotexit [--fail N]... [--fuse N] [--store DIR] replay, run [--workers N], restore, check or made N
+$ exit off quit last last
+> hotexit 1
+! 2 usage: hotexit [--fail N]... [--fuse N] [--store DIR] replay, run [--workers N], restore, check or made N
+$ exit off quit last folder mac x
+> hotexit 1
+! 2 usage: hotexit [--fail N]... [--fuse N] [--store DIR] replay, run [--workers N], restore, check or made N
 $ play
 > hotexit 1
 ! 2 usage: hotexit [--fail N]... [--fuse N] [--store DIR] replay, run [--workers N], restore, check or made N

@@ -1,3 +1,4 @@
+pub mod Exits
 pub mod Words
 pub mod Whole
 pub mod Ends

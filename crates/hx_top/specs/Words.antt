@@ -5,12 +5,14 @@ use Rattle.hx_base.specs.Decimals.{decimal_value}
 use Rattle.hx_top.specs.declared.words.Setting.{Setting}
 use Rattle.hx_top.specs.declared.words.Setting.TheVariants.{Fail, Fuse}
 use Rattle.hx_top.specs.declared.words.Task.{Task}
-use Rattle.hx_top.specs.declared.words.Task.TheVariants.{Replay, Restore, Made}
+use Rattle.hx_top.specs.declared.words.Task.TheVariants.{Replay, Restore, Made, Exit}
 use Rattle.hx_top.specs.declared.words.DiskChoice.{DiskChoice}
 use Rattle.hx_top.specs.declared.words.DiskChoice.TheVariants.{Memory, Store}
 use Rattle.hx_top.specs.declared.words.Order.{Order}
 use Rattle.hx_top.specs.declared.words.Order.TheVariants.{Check, Play}
 use Rattle.hx_top.specs.declared.words.RunOrder.{RunOrder}
+use Rattle.hx_top.specs.declared.exits.ExitOrder.{ExitOrder}
+use Rattle.hx_top.specs.Exits.{exit_of}
 
 -- the bytes of each word
 abbrev pub texts_of : List (String Global) → List (List ℕ)
@@ -99,11 +101,16 @@ second_order word second =
     else if bytes_eq word (codes "replay") && bytes_eq second (codes "--guarded") then Some (Play (Replay true))
     else None
 
--- `replay`, `restore`, `check`, `made` with a number, and `replay --guarded`; nothing follows
+abbrev pub exit_order : Option ExitOrder → Option Order
+exit_order None = None
+exit_order (Some order) = Some (Play (Exit order))
+
+-- `replay`, `restore`, `check`, `made` with a number, `replay --guarded`, and `exit` with its words; nothing follows
 abbrev pub order_of : List (List ℕ) → Option Order
+order_of [] = None
 order_of (word ∷ []) = plain_order word
 order_of (word ∷ second ∷ []) = second_order word second
-order_of words = None
+order_of (word ∷ setting ∷ ending ∷ flags) = exit_order (exit_of word setting ending flags)
 
 -- a generated script has a number from 1 to 1,000
 abbrev pub IsTask : Task → Type 0

@@ -3,6 +3,7 @@
 #![tactic(auto)]
 
 mod ends;
+mod exits;
 mod printing;
 mod program;
 mod reading;
@@ -12,6 +13,7 @@ mod whole;
 mod words;
 
 pub use ends::{name_of, status};
+pub use exits::ExitOrder;
 pub use program::{Exit, NoWords, run_to_exit, serve};
 pub use runs::top_run;
 pub use telling::report;

@@ -2,8 +2,10 @@
 
 ghost use Rattle.std.specs.Prelude.{◌≡◌, ◌≤◌, ◌&&◌, ◌++◌, nat_le, [], ◌∷◌, drop, length, is_some, Some, None, string_bytes, IfOk, OnOk, IfSome};
 ghost use Rattle.hx_base.specs.Decimals.{decimal_value};
-ghost use Rattle.hx_top.specs.Words.{IsChosen, IsOrder, IsWorkers, are_few, behind_disk, command_in, fails_of, first_setting, fuse_of, has_disk, is_fail, is_fuse, later_of, is_guarded_word, is_run_word, made_order, order_in, order_of, plain_order, run_behind, run_in, run_of, run_with, second_order, setting_in, setting_of, settings_before, store_in, texts_of, workers_behind, workers_in, workers_of};
+ghost use Rattle.hx_top.specs.Exits.{exit_of};
+ghost use Rattle.hx_top.specs.Words.{IsChosen, IsOrder, IsWorkers, are_few, behind_disk, command_in, exit_order, fails_of, first_setting, fuse_of, has_disk, is_fail, is_fuse, later_of, is_guarded_word, is_run_word, made_order, order_in, order_of, plain_order, run_behind, run_in, run_of, run_with, second_order, setting_in, setting_of, settings_before, store_in, texts_of, workers_behind, workers_in, workers_of};
 
+use crate::exits::{ExitOrder, exit_of};
 use hx_base::read_decimal;
 use hx_memdisk::Plan;
 use std::alloc::{AllocError, Global};
@@ -36,6 +38,9 @@ pub enum Task {
 
     /// The script that is generated from this number, from 1 to 1,000; counts are printed.
     Made(u32),
+
+    /// The source's script, in plain lives; what comes of its end is printed, by the setting `files.hotExit`.
+    Exit(ExitOrder),
 }
 
 /// What the program is asked for.
@@ -127,6 +132,20 @@ fn second_order(word: &[u8], second: &[u8]) -> Option<Order>
     }
 }
 
+fn exit_order(order: Option<ExitOrder>) -> Option<Order>
+    ensures task { IfSome result IsOrder }
+    ensures order { result ≡ exit_order order }
+{
+    Some(Order::Play(Task::Exit(order?)))
+}
+
+fn behind_three(words: &[String]) -> &[String]
+    requires { 3 ≤ length words.now }
+    ensures { result.now ≡ drop 3 words.now }
+{
+    &words[3..]
+}
+
 fn order_of(command: &[String]) -> Option<Order>
     ensures task { IfSome result IsOrder }
     ensures order { result ≡ order_of (texts_of command.now) }
@@ -134,6 +153,12 @@ fn order_of(command: &[String]) -> Option<Order>
     match command {
         [word] => plain_order(word.as_bytes()),
         [word, second] => second_order(word.as_bytes(), second.as_bytes()),
+        [word, setting, ending, ..] => exit_order(exit_of(
+            word.as_bytes(),
+            setting.as_bytes(),
+            ending.as_bytes(),
+            behind_three(command),
+        )),
         _ => None,
     }
 }
