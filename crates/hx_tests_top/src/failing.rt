@@ -74,18 +74,18 @@ impl<R: Folders + Drop> Failing<R> {
         })
     }
 
-    fn opened(&self, file: R::File) -> FailingFile<R::File> {
-        FailingFile {
+    fn opened(&self, file: R::File) -> io::Result<FailingFile<R::File>> {
+        Ok(FailingFile {
             file,
-            plan: self.plan.clone(),
-        }
+            plan: self.plan.clone()?,
+        })
     }
 }
 
 impl<R: Folders + Drop> Folders for Failing<R> {
     fn hold(&self, folder: Path<'_>) -> io::Result<FailingFile<R::File>> {
         self.plan.pass()?;
-        Ok(self.opened(self.files.hold(folder)?))
+        self.opened(self.files.hold(folder)?)
     }
 }
 
@@ -96,7 +96,7 @@ impl<R: Folders + Drop> Files for Failing<R> {
 
     fn open_file(&self, how: &OpenOptions, path: &str) -> io::Result<FailingFile<R::File>> {
         self.plan.pass()?;
-        Ok(self.opened(self.files.open_file(how, path)?))
+        self.opened(self.files.open_file(how, path)?)
     }
 
     fn open_dir(&self, path: &str) -> io::Result<R::Dir> {

@@ -37,7 +37,7 @@ fn each_failure_is_counted(rt: HostRuntime) -> Result<(), Fail> {
     let alloc = rt.alloc();
     for moves_nothing in [false, true] {
         for (index, expected) in FAILURES.split(' ').enumerate() {
-            empty_folder(&rt, alloc, "failing")?;
+            empty_folder(&rt, "failing")?;
             let files = Failing::new(rt, alloc, index as u64 + 1, moves_nothing)?;
             let mut disk = FileDisk::new(files, alloc, String::from_str(alloc, "failing")?)?;
             let count = failures(&mut disk, FileNo::new(200))?;
@@ -45,5 +45,5 @@ fn each_failure_is_counted(rt: HostRuntime) -> Result<(), Fail> {
             assert_eq!(rt; disk.faults(), count, "{index}");
         }
     }
-    Ok(fs::remove_dir_all(&rt, alloc, "failing")?)
+    Ok(fs::remove_dir_all(&rt, "failing")?)
 }

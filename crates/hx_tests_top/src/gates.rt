@@ -43,6 +43,7 @@ struct Seen {
     window: AtomicU64,
     writer: AtomicU64,
     second_writer: AtomicU64,
+    third_writer: AtomicU64,
     saver: AtomicU64,
     late: AtomicU64,
 }
@@ -52,6 +53,7 @@ fn nothing_seen() -> Seen {
         window: AtomicU64::new(0),
         writer: AtomicU64::new(0),
         second_writer: AtomicU64::new(0),
+        third_writer: AtomicU64::new(0),
         saver: AtomicU64::new(0),
         late: AtomicU64::new(0),
     }
@@ -158,37 +160,41 @@ fn writers_and_savers_work_beside_a_window(rt: HostRuntime) -> Result<(), Fail> 
     Ok(())
 }
 
-/// Holds a window before its third command until two writers have done a stage, and each of these until the other has.
+/// Holds a window before its third command until three writers have done a stage, and each of these until the others have.
 #[derive(Drop)]
-struct BothWriters(Seen);
+struct ThreeWriters(Seen);
 
-impl Gate for BothWriters {
+impl ThreeWriters {
+    fn wait_for_all(&self) {
+        self.0.wait_for(&self.0.writer);
+        self.0.wait_for(&self.0.second_writer);
+        self.0.wait_for(&self.0.third_writer);
+    }
+}
+
+impl Gate for ThreeWriters {
     fn before(&self, _window: u32, command: u64) {
         if command == 2 {
-            self.0.wait_for(&self.0.writer);
-            self.0.wait_for(&self.0.second_writer);
+            self.wait_for_all();
         }
     }
 
     fn staged(&self, actor: Actor) {
-        match actor {
-            Actor::Writer(0) => {
-                self.0.writer.store(1, Ordering::SeqCst);
-                self.0.wait_for(&self.0.second_writer);
-            }
-            Actor::Writer(_) => {
-                self.0.second_writer.store(1, Ordering::SeqCst);
-                self.0.wait_for(&self.0.writer);
-            }
-            _ => {}
-        }
+        let mark = match actor {
+            Actor::Writer(0) => &self.0.writer,
+            Actor::Writer(1) => &self.0.second_writer,
+            Actor::Writer(_) => &self.0.third_writer,
+            _ => return,
+        };
+        mark.store(1, Ordering::SeqCst);
+        self.wait_for_all();
     }
 }
 
 #[test]
-fn two_writers_work_beside_each_other(rt: HostRuntime) -> Result<(), Fail> {
-    let gate = BothWriters(nothing_seen());
-    let (end, _) = run_at_once(&rt, rt.alloc(), "run --workers 2", SAVED_BETWEEN, &gate)?;
+fn three_writers_work_beside_each_other(rt: HostRuntime) -> Result<(), Fail> {
+    let gate = ThreeWriters(nothing_seen());
+    let (end, _) = run_at_once(&rt, rt.alloc(), "run --workers 3", SAVED_BETWEEN, &gate)?;
     assert!(rt; end == End::Done);
     assert!(rt; !gate.0.was_late());
     Ok(())

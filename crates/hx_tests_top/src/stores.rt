@@ -3,15 +3,14 @@
 use crate::playing::{Ran, run};
 use hx_disk::{Disk, FileNo};
 use hx_filedisk::FileDisk;
-use std::alloc::Global;
 use std::fs;
 use std::io::ErrorKind;
 use std::process::{Abort, ExitCode};
 use std::test::Fail;
 
 /// An empty folder of this name, whatever a test that was cut off has left there.
-pub fn empty_folder(rt: &HostRuntime, alloc: Global, name: &str) -> Result<(), Fail> {
-    match fs::remove_dir_all(rt, alloc, name) {
+pub fn empty_folder(rt: &HostRuntime, name: &str) -> Result<(), Fail> {
+    match fs::remove_dir_all(rt, name) {
         Err(error) if error.kind() != ErrorKind::NotFound => Err(Fail::from("a folder is in use")),
         _ => Ok(fs::create_dir(rt, name)?),
     }
@@ -35,7 +34,7 @@ b0 vault file:///a
 #[test]
 fn a_backup_in_a_folder_is_restored(rt: HostRuntime) -> Result<(), Fail> {
     let alloc = rt.alloc();
-    empty_folder(&rt, alloc, "backups")?;
+    empty_folder(&rt, "backups")?;
     let ran = run(&rt, alloc, "--store backups replay", BACKED_UP.as_bytes())?;
     assert!(rt; ran.code == ExitCode::from(0));
     let ran = run(
@@ -45,7 +44,7 @@ fn a_backup_in_a_folder_is_restored(rt: HostRuntime) -> Result<(), Fail> {
         b"hotexit 1\nfile file:///a\n",
     )?;
     ends_so(&rt, &ran, 0, "pair 0 restored file:///a none =hello\n", "");
-    Ok(fs::remove_dir_all(&rt, alloc, "backups")?)
+    Ok(fs::remove_dir_all(&rt, "backups")?)
 }
 
 const SAVED: &str = "hotexit 1
@@ -64,17 +63,17 @@ s0 flush file:///a
 #[test]
 fn a_save_stands_whole_in_its_file(rt: HostRuntime) -> Result<(), Fail> {
     let alloc = rt.alloc();
-    empty_folder(&rt, alloc, "saves")?;
+    empty_folder(&rt, "saves")?;
     let ran = run(&rt, alloc, "--store saves replay", SAVED.as_bytes())?;
     assert!(rt; ran.code == ExitCode::from(0));
     assert_eq!(rt; fs::read(&rt, "saves/128")?.as_slice(), b"hi".as_slice());
-    Ok(fs::remove_dir_all(&rt, alloc, "saves")?)
+    Ok(fs::remove_dir_all(&rt, "saves")?)
 }
 
 #[test]
 fn a_folder_takes_no_other_programs_times(rt: HostRuntime) -> Result<(), Fail> {
     let alloc = rt.alloc();
-    empty_folder(&rt, alloc, "times")?;
+    empty_folder(&rt, "times")?;
     let ran = run(
         &rt,
         alloc,
@@ -88,7 +87,7 @@ fn a_folder_takes_no_other_programs_times(rt: HostRuntime) -> Result<(), Fail> {
         "hotexit trace 1\nlife 1\nname A\nw0 outside A 5 =x\tfault\nq quit\tquit\nend script\n",
         "",
     );
-    Ok(fs::remove_dir_all(&rt, alloc, "times")?)
+    Ok(fs::remove_dir_all(&rt, "times")?)
 }
 
 #[test]
@@ -111,7 +110,7 @@ fn a_folder_may_be_none(rt: HostRuntime) -> Result<(), Fail> {
 #[test]
 fn one_program_at_a_time_holds_a_folder(rt: HostRuntime) -> Result<(), Fail> {
     let alloc = rt.alloc();
-    empty_folder(&rt, alloc, "held")?;
+    empty_folder(&rt, "held")?;
     let mut holder = FileDisk::new(rt, alloc, String::from_str(alloc, "held")?)?;
     assert!(rt; holder.stat(FileNo::new(0)) == Ok(None));
     let ran = run(&rt, alloc, "--store held replay", BACKED_UP.as_bytes())?;
@@ -119,5 +118,5 @@ fn one_program_at_a_time_holds_a_folder(rt: HostRuntime) -> Result<(), Fail> {
     drop(holder);
     let ran = run(&rt, alloc, "--store held replay", BACKED_UP.as_bytes())?;
     assert!(rt; ran.code == ExitCode::from(0));
-    Ok(fs::remove_dir_all(&rt, alloc, "held")?)
+    Ok(fs::remove_dir_all(&rt, "held")?)
 }

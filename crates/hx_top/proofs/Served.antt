@@ -14,7 +14,10 @@ use Rattle.hx_top.specs.declared.whole.End.{End}
 use Rattle.hx_top.specs.declared.whole.End.TheVariants.{Done, WriteFault, OpenFault}
 use Rattle.hx_top.specs.declared.words.Order.TheVariants.{Play}
 use Rattle.hx_top.specs.declared.words.RunOrder.{RunOrder}
+use Rattle.hx_top.specs.declared.exits.ExitOrder.{ExitOrder}
 use Rattle.hx_top.specs.declared.words.Task.{Task}
+use Rattle.hx_top.specs.declared.words.Task.TheVariants.{Exit}
+use Rattle.hx_top.specs.Asking.{ClosesSafely}
 use Rattle.hx_top.specs.Program.{HasServed, HasServedOn, ServedBy, ServedInFolder, ServedInMemory, printed_by, refusal_by}
 use Rattle.hx_top.specs.Runs.{HasBeenRun, run_refusal}
 use Rattle.hx_top.specs.Whole.{HavePlayed, IsOfInput, printed, refusal}
@@ -53,19 +56,22 @@ by_run picked tells past words input before now end a start b count lives is don
   played = λ task none. not_neither (run_in words) is none;
   ran = ran;
   kept = kept;
+  closes = λ order none. not_neither (run_in words) is none;
   open_fault = unopened;
 }
 
 pub by_top : (picked : ℕ → FileState → List ℕ) (tells : Bool) (past : Past) (words : List (List ℕ)) (input before now : List ℕ) (end : End) (a start b count : ℕ) (lives : List Life) → is_some (run_in words) ≡ false
     → (end ≡ Done → added before now ≡ printed (order_in words) input lives) → (end ≡ WriteFault → AddsFront (printed (order_in words) input lives) before now)
     → ((task : Task) → order_in words ≡ Some (Play task) → IsOfInput end → HavePlayed picked tells past task input end a start b count (reverse lives))
-    → (IsTrue tells → HaveKept past b (reverse lives)) → (end ≡ OpenFault → Rose (faults_over start (reverse lives)) count) → HasServed picked tells past words input before now end a start b count lives
-by_top picked tells past words input before now end a start b count lives is done front played kept unopened = record {
+    → (IsTrue tells → HaveKept past b (reverse lives)) → ((order : ExitOrder) → order_in words ≡ Some (Play (Exit order)) → IsTrue tells → end ≡ Done → ClosesSafely order past b (reverse lives))
+    → (end ≡ OpenFault → Rose (faults_over start (reverse lives)) count) → HasServed picked tells past words input before now end a start b count lives
+by_top picked tells past words input before now end a start b count lives is done front played kept closes unopened = record {
   done = λ ended. done ended ∙ sym (printed_other (run_in words) words input lives is);
   front = λ ended. subst (λ (text : List ℕ). AddsFront text before now) (sym (printed_other (run_in words) words input lives is)) (front ended);
   played = λ task none. played task;
   ran = λ order some. not_both (run_in words) order is some;
   kept = kept;
+  closes = λ order none. closes order;
   open_fault = unopened;
 }
 

@@ -1,4 +1,5 @@
 pub mod Exits
+pub mod Asking
 pub mod Words
 pub mod Whole
 pub mod Ends

@@ -21,7 +21,10 @@ use Rattle.hx_top.specs.declared.whole.End.TheVariants.{Done, Usage, NoMemory, W
 use Rattle.hx_top.specs.declared.words.DiskChoice.TheVariants.{Memory}
 use Rattle.hx_top.specs.declared.words.Order.TheVariants.{Play}
 use Rattle.hx_top.specs.declared.words.RunOrder.{RunOrder}
+use Rattle.hx_top.specs.declared.exits.ExitOrder.{ExitOrder}
 use Rattle.hx_top.specs.declared.words.Task.{Task}
+use Rattle.hx_top.specs.declared.words.Task.TheVariants.{Exit}
+use Rattle.hx_top.specs.Asking.{ClosesSafely}
 use Rattle.hx_top.specs.Runs.{HasBeenRun, run_refusal}
 use Rattle.hx_top.specs.Whole.{HavePlayed, IsOfInput, printed, refusal}
 use Rattle.hx_top.specs.Words.{IsChosen, order_in, run_in}
@@ -46,13 +49,15 @@ pub record IsNewDisk (words : List (List ℕ)) (disk : MemDisk) : Type 0 where
 -- The words were served on a disk that has the past `past`, from the moment a on and from the count of faults `start`: these lives
 -- were led, the oldest first, and the disk came to the moment b and to the count `count`. What was printed behind what stood there
 -- `before` is their text, or a front of it where a write failed. They are the lives of the windows of the script that was read for a
--- run's words, and else of its steps, and where the disk tells, guarded ones have kept what guarded lives keep.
+-- run's words, and else of its steps. Where the disk tells, guarded ones have kept what guarded lives keep, and where an exit closes, all
+-- that is dirty comes back.
 pub record HasServed (picked : ℕ → FileState → List ℕ) (tells : Bool) (past : Past) (words : List (List ℕ)) (input before now : List ℕ) (end : End) (a start b count : ℕ) (lives : List Life) : Type 0 where
   pub done : end ≡ Done → added before now ≡ printed_by (run_in words) words input lives
   pub front : end ≡ WriteFault → AddsFront (printed_by (run_in words) words input lives) before now
   pub played : (task : Task) → run_in words ≡ None → order_in words ≡ Some (Play task) → IsOfInput end → HavePlayed picked tells past task input end a start b count (reverse lives)
   pub ran : (order : RunOrder) → run_in words ≡ Some order → IsOfInput end → HasBeenRun picked tells past order.guarded input end a start b count (reverse lives)
   pub kept : IsTrue tells → HaveKept past b (reverse lives)
+  pub closes : (order : ExitOrder) → run_in words ≡ None → order_in words ≡ Some (Play (Exit order)) → IsTrue tells → end ≡ Done → ClosesSafely order past b (reverse lives)
   pub open_fault : end ≡ OpenFault → Rose (faults_over start (reverse lives)) count
 
 -- the same on this disk, which has gone on to another one

@@ -26,12 +26,14 @@ use Rattle.hx_top.specs.declared.whole.End.TheVariants.{Done, Usage, BadScript, 
 use Rattle.hx_top.specs.declared.words.Order.{Order}
 use Rattle.hx_top.specs.declared.words.Order.TheVariants.{Check, Play}
 use Rattle.hx_top.specs.declared.words.Task.{Task}
-use Rattle.hx_top.specs.declared.words.Task.TheVariants.{Replay, Restore, Made}
+use Rattle.hx_top.specs.declared.words.Task.TheVariants.{Replay, Restore, Made, Exit}
+use Rattle.hx_top.specs.Asking.{exit_text}
 
 -- the script that a task plays: the one that was read, or the one that is generated
 abbrev pub script_of : Task → List ℕ → Reading Script
 script_of (Replay guarded) input = script_in ForReplay input
 script_of Restore input = script_in ForRestore input
+script_of (Exit order) input = script_in ForReplay input
 script_of (Made n) input = Reads (made_script n)
 
 -- the lines of the pairs that the first life began with
@@ -39,10 +41,11 @@ abbrev pub restored_text : List Life → List ℕ
 restored_text [] = []
 restored_text (life ∷ lives) = pair_lines 0 life.base
 
--- What is printed of the lives, the oldest first: they themselves, what was restored, or the counts.
+-- What is printed of the lives, the oldest first: they themselves, what was restored, the counts, or what comes of an exit.
 abbrev pub text_of : Task → List Life → List ℕ
 text_of (Replay guarded) lives = trace_text lives
 text_of Restore lives = restored_text lives
+text_of (Exit order) lives = exit_text order lives
 text_of (Made n) lives = summary_text n lives
 
 -- what is printed of a verdict
@@ -61,6 +64,7 @@ reads_source None = false
 reads_source (Some Check) = true
 reads_source (Some (Play (Replay guarded))) = true
 reads_source (Some (Play Restore)) = true
+reads_source (Some (Play (Exit order))) = true
 reads_source (Some (Play (Made n))) = false
 
 -- the most bytes that are read, as a script or as a trace; what is longer is refused

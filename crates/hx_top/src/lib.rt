@@ -2,6 +2,7 @@
 //! the two calls on which the promises stand; `run_to_exit` is the one call that `main` makes.
 #![tactic(auto)]
 
+mod asking;
 mod ends;
 mod exits;
 mod printing;

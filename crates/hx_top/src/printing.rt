@@ -6,6 +6,7 @@ ghost use Rattle.hx_io.specs.Streams.{AddsFront, Grows, added};
 ghost use Rattle.hx_report.specs.Traces.{AreWhole};
 ghost use Rattle.hx_top.specs.Whole.{IsOfPrint, IsSilent, text_of, verdict_text};
 
+use crate::asking::exit_text;
 use crate::whole::End;
 use crate::words::Task;
 use hx_base::decimal;
@@ -27,6 +28,7 @@ fn text_of(alloc: Global, task: Task, lives: &[Life]) -> Result<Vec<u8>, AllocEr
             [] => Ok(Vec::new(alloc)),
         },
         Task::Made(n) => summary(alloc, n, lives),
+        Task::Exit(order) => exit_text(alloc, order, lives),
     }
 }
 

@@ -74,7 +74,7 @@ pub fn script_for<S: Source>(alloc: Global, task: Task, source: &mut S) -> Resul
     ensures later { S.failures source.old ≤ S.failures source.new }
 {
     match task {
-        Task::Replay { guarded: _ } => read_as(alloc, source, Form::Replay),
+        Task::Replay { guarded: _ } | Task::Exit(_) => read_as(alloc, source, Form::Replay),
         Task::Restore => read_as(alloc, source, Form::Restore),
         Task::Made(n) => made(alloc, n).map_err(|_| End::NoMemory),
     }

@@ -11,10 +11,13 @@ ghost use Rattle.hx_report.specs.Traces.{AreWhole};
 ghost use Rattle.hx_script.specs.Scripts.{IsWellMade};
 ghost use Rattle.hx_script.specs.Traces.{trace_in};
 ghost use Rattle.hx_script.specs.declared.why.Why.{Why};
+ghost use Rattle.hx_top.specs.Asking.{ClosesSafely};
 ghost use Rattle.hx_top.specs.Whole.{EndsAs, FollowTo, HavePlayed, IsBeforeDisk, IsDoneOrNoMemory, IsOfCheck, IsOfInput, IsOfPlay, IsSilent, IsUntouched, is_guarded, judged_text, limit, printed, reads_source, refusal, text_of};
 ghost use Rattle.hx_top.specs.Words.{order_in, texts_of};
 ghost use Rattle.hx_top.specs.declared.words.Order.TheVariants.{Check, Play};
+ghost use Rattle.hx_top.specs.declared.exits.ExitOrder.{ExitOrder};
 ghost use Rattle.hx_top.specs.declared.words.Task.{Task};
+ghost use Rattle.hx_top.specs.declared.words.Task.TheVariants.{Exit};
 
 use crate::printing::{print, print_verdict};
 use crate::reading::{script_for, trace_from};
@@ -119,6 +122,7 @@ fn play<K: Sink, D: Disk>(
     ensures follow { FollowTo result.end (is_guarded task) script.names script.steps (reverse result.lives.items) }
     ensures played { ArePlayed D.picked D.tells (D.past result.disk) (reverse script.slots) (D.time disk) (D.failures disk) (D.time result.disk) (D.failures result.disk) (reverse result.lives.items) }
     ensures kept { IsTrue D.tells → HaveKept (D.past result.disk) (D.time result.disk) (reverse result.lives.items) }
+    ensures closes { (order : ExitOrder) → task ≡ Task.Exit order → IsTrue D.tells → result.end ≡ End.Done → ClosesSafely order (D.past result.disk) (D.time result.disk) (reverse result.lives.items) }
     ensures runs { HasGoneOn D.time D.past D.failures disk result.disk }
     ensures done { result.end ≡ End.Done → added (K.taken sink.old) (K.taken sink.new) ≡ text_of task result.lives.items }
     ensures front { result.end ≡ End.WriteFault → AddsFront (text_of task result.lives.items) (K.taken sink.old) (K.taken sink.new) }
@@ -198,10 +202,12 @@ pub fn top<S: Source, K: Sink, D: Disk>(
     ensures silent { IsSilent result.end → sink.new ≡ sink.old }
 
     // Which lives there are, what holds of them and of the disk before and behind them, and whatever a crash leaves: the disk that
-    // comes back is the one that was given, gone on, so that two calls in a row compose. Guarded lives have kept, at each moment, the newest version of each copy that was saved or backed up.
+    // comes back is the one that was given, gone on, so that two calls in a row compose. Guarded lives have kept, at each moment, the newest version of each copy that was saved or backed up. Where
+    // an exit closes, all that is dirty at the end comes back.
     ensures played { (task : Task) → order_in (texts_of words.now) ≡ Some (Play task) → IsOfInput result.end → HavePlayed D.picked D.tells (D.past result.disk) task (added (S.given source.old) (S.given source.new)) result.end (D.time disk) (D.failures disk) (D.time result.disk) (D.failures result.disk) (reverse result.lives.items) }
     ensures memory { (task : Task) → order_in (texts_of words.now) ≡ Some (Play task) → result.end ≡ End.NoMemory → IsUntouched disk result.disk result.lives.items ⊎ HavePlayed D.picked D.tells (D.past result.disk) task (added (S.given source.old) (S.given source.new)) End.NoMemory (D.time disk) (D.failures disk) (D.time result.disk) (D.failures result.disk) (reverse result.lives.items) }
     ensures kept { IsTrue D.tells → HaveKept (D.past result.disk) (D.time result.disk) (reverse result.lives.items) }
+    ensures closes { (order : ExitOrder) → order_in (texts_of words.now) ≡ Some (Play (Exit order)) → IsTrue D.tells → result.end ≡ End.Done → ClosesSafely order (D.past result.disk) (D.time result.disk) (reverse result.lives.items) }
     ensures runs { HasGoneOn D.time D.past D.failures disk result.disk }
     ensures judged { order_in (texts_of words.now) ≡ Some Check → IsUntouched disk result.disk result.lives.items }
     ensures untouched { IsBeforeDisk result.end → IsUntouched disk result.disk result.lives.items }

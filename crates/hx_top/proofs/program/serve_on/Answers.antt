@@ -29,5 +29,5 @@ returns-else-is_run-clause-served g c =
       lives = c.top.result.lives.items;
       runs = c.top.ensures.runs;
       served = by_top g.D.Disk.picked g.D.Disk.tells (g.D.Disk.past back) (texts_of c.args.words.now) input (g.K.Sink.taken c.args.sink.now) (g.K.Sink.taken c.top.new.sink) c.top.result.end (g.D.Disk.time c.args.disk) (g.D.Disk.failures c.args.disk) (g.D.Disk.time back) (g.D.Disk.failures back) c.top.result.lives.items
-          (sym c.is_run.ensures ∙ c.if-is_run.false) c.top.ensures.done c.top.ensures.front c.top.ensures.played c.top.ensures.kept c.top.ensures.open_fault;
+          (sym c.is_run.ensures ∙ c.if-is_run.false) c.top.ensures.done c.top.ensures.front c.top.ensures.played c.top.ensures.kept c.top.ensures.closes c.top.ensures.open_fault;
     })

@@ -4,6 +4,7 @@ use Rattle.hx_events.specs.declared.life.Life.{Life}
 use Rattle.hx_lives.specs.Chained.{faults_of}
 use Rattle.hx_play.specs.Played.{ArePlayed}
 use Rattle.hx_top.specs.Whole.{FollowTo, is_guarded}
+use Rattle.hx_top.proofs.Exits.{played_closes}
 use Rattle.hx_top.proofs.Guarded.{played_kept}
 use Rattle.hx_top.proofs.Played.{followed, of_play, opening_failed}
 use Rattle.hx_top.proofs.whole.play.Goals as goal
@@ -31,3 +32,7 @@ returns-clause-open_fault g c = λ is.
 pub returns-clause-kept : goal.returns-clause-kept
 returns-clause-kept g c =
     played_kept g.D.Disk.picked g.D.Disk.tells (g.D.Disk.past c.print_played.result.disk) (reverse c.args.script.slots) (g.D.Disk.time c.args.disk) (g.D.Disk.failures c.args.disk) (g.D.Disk.time c.print_played.result.disk) (g.D.Disk.failures c.print_played.result.disk) (reverse c.print_played.result.lives.items) (returns-clause-played g c)
+
+pub returns-clause-closes : goal.returns-clause-closes
+returns-clause-closes g c =
+    λ order exit is done. played_closes g.D.Disk.picked g.D.Disk.tells (g.D.Disk.past c.print_played.result.disk) c.args.task order c.print_played.result.end c.args.script.names c.args.script.steps (reverse c.args.script.slots) (g.D.Disk.time c.args.disk) (g.D.Disk.failures c.args.disk) (g.D.Disk.time c.print_played.result.disk) (g.D.Disk.failures c.print_played.result.disk) (reverse c.print_played.result.lives.items) (returns-clause-follow g c) (returns-clause-played g c) exit is done
