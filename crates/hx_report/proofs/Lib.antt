@@ -5,3 +5,4 @@ pub mod Outlining
 pub mod Tallying
 pub mod Walking
 pub mod Sums
+pub mod Copying

@@ -4,3 +4,4 @@ pub mod Summaries
 pub mod Saves
 pub mod Outlines
 pub mod Counting
+pub mod Copies

@@ -1,6 +1,8 @@
-//! The printed text of lives: the trace, with each life's pairs, entries and tail, and the summary of counts.
+//! What is told of lives: the trace, with each life's pairs, entries and tail, the summary of counts, and how the copies of a
+//! life stand at its end.
 #![tactic(auto)]
 
+mod copy_facts;
 mod counts;
 mod events;
 mod outline;
@@ -13,6 +15,7 @@ mod tally;
 mod trace;
 mod trail;
 
+pub use copy_facts::facts;
 pub use counts::summary;
 pub use outline::{Outline, is_new_version};
 pub use pair_lines::pairs;
