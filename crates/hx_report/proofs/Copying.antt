@@ -1,5 +1,5 @@
 -- The copies at the end of a life, by the outlines that its entries leave.
-use Rattle.std.specs.Prelude.{◌≡◌, ℕ, zero, suc, ◌+◌, ◌==◌, ◌≤◌, Bool, true, false, List, [], ◌∷◌, ◌++◌, length, Option, Some, None, slice_get, refl}
+use Rattle.std.specs.Prelude.{◌≡◌, ℕ, zero, suc, ◌+◌, ◌==◌, ◌≤◌, false, List, ◌++◌, length, Option, Some, None, slice_get, refl}
 use Rattle.std.proofs.Common.{ap, sym, ◌∙◌, arith}
 use Rattle.hx_events.specs.declared.backup.Backup.{Backup}
 use Rattle.hx_events.specs.declared.copies.CopyFact.{CopyFact}
@@ -12,7 +12,7 @@ use Rattle.hx_rules.specs.Legal.{Opening, restored_at}
 use Rattle.hx_rules.specs.Versions.{last_version}
 use Rattle.hx_report.specs.declared.outline.Outline.{Outline}
 use Rattle.hx_report.specs.declared.tally.Tally.{Tally}
-use Rattle.hx_report.specs.Copies.{copies_at_end, copies_below, copy_fact, fact_at, fact_if, fact_of_outline, fact_of_some, facts_of_outlines}
+use Rattle.hx_report.specs.Copies.{copies_at_end, copies_below, copy_fact, fact_if, fact_of_outline, fact_of_some, facts_of_outlines}
 use Rattle.hx_report.specs.Outlines.{IsTallied, outline}
 use Rattle.hx_report.specs.Tails.{opening, version_of}
 use Rattle.hx_report.proofs.Tallying.{item_at}

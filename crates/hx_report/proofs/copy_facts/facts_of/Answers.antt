@@ -1,4 +1,4 @@
-use Rattle.std.proofs.Common.{◌≡◌, ◌<◌, ◌++◌, ℕ, List, length, refl, subst, arith, ◌∙◌, ap}
+use Rattle.std.proofs.Common.{◌<◌, ◌++◌, ℕ, length, refl, arith, ◌∙◌, ap}
 use Rattle.std.proofs.lemmas.Option.{slice_get_read}
 use Rattle.hx_report.specs.Copies.{fact_of_outline}
 use Rattle.hx_report.proofs.Copying.{facts_next}
