@@ -112,11 +112,11 @@ no_workers guarded (a ∷ []) none two = refl
 no_workers guarded (a ∷ b ∷ []) none two = absurd (two refl)
 no_workers guarded (a ∷ b ∷ c ∷ words) none two = refl
 
-pub no_order : (words : List (String Global)) → (length words ≡ 1 → ⊥) → (length words ≡ 2 → ⊥) → order_of (texts_of words) ≡ None
-no_order [] one two = refl
-no_order (a ∷ []) one two = absurd (one refl)
-no_order (a ∷ b ∷ []) one two = absurd (two refl)
-no_order (a ∷ b ∷ c ∷ words) one two = refl
+pub no_order : (words : List (String Global)) → (length words ≡ 1 → ⊥) → (length words ≡ 2 → ⊥) → length words < 3 → order_of (texts_of words) ≡ None
+no_order [] one two few = refl
+no_order (a ∷ []) one two few = absurd (one refl)
+no_order (a ∷ b ∷ []) one two few = absurd (two refl)
+no_order (a ∷ b ∷ c ∷ words) one two few = absurd (omega (arith, few))
 
 -- a setting is one of the two
 pub counts_once : (s : Setting) → cond (is_fail s) 1 0 + cond (is_fuse s) 1 0 ≡ 1
