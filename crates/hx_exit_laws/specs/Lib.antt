@@ -1,0 +1,4 @@
+pub mod Ends
+pub mod Decisions
+pub mod Calm
+pub mod Back
