@@ -1,5 +1,5 @@
 -- What comes back after an exit that closed.
-use Rattle.std.specs.Prelude.{◌≡◌, ◌<◌, ◌⊎◌, ℕ, ◌==◌, Bool, true, false, IsTrue, IsFalse, List, [], ◌∷◌, length, Option, Some, None, option_map, refl}
+use Rattle.std.specs.Prelude.{◌≡◌, ◌<◌, ◌⊎◌, ℕ, ◌==◌, Bool, true, false, IsTrue, List, [], ◌∷◌, length, Option, Some, None, option_map, refl}
 use Rattle.std.proofs.Common.{ap, sym, ◌∙◌, inl, inr, subst}
 use Rattle.hx_disk.specs.File.{FileState}
 use Rattle.hx_events.specs.declared.backup.Backup.{Backup}
@@ -7,21 +7,19 @@ use Rattle.hx_events.specs.declared.life.Life.{Life}
 use Rattle.hx_exit.specs.declared.exit.Decision.TheVariants.{Close}
 use Rattle.hx_exit.specs.Exits.{decision_by}
 use Rattle.hx_guarded_laws.specs.Contents.{IsVersion, hold_versions}
-use Rattle.hx_lives.specs.Chained.{IsLived}
-use Rattle.hx_lives.specs.Course.{Past, course_of, opening_at, start_of}
-use Rattle.hx_lives.specs.CrashSafe.{HasNoTwin, name_at, safe_image}
+use Rattle.hx_lives.specs.Course.{course_of, start_of}
+use Rattle.hx_lives.specs.CrashSafe.{name_at, safe_image}
 use Rattle.hx_report.specs.Copies.{copies_at_end}
 use Rattle.hx_report.specs.Tails.{opening}
 use Rattle.hx_rules.specs.Allowed.{IsAllowed, IsAmong, allowed, allowed_of}
-use Rattle.hx_rules.specs.Backups.{Snapshot, backed, backup_of, done, tried, undone}
-use Rattle.hx_rules.specs.Copies.{dirty}
+use Rattle.hx_rules.specs.Backups.{Snapshot, backup_of, done, tried, undone}
 use Rattle.hx_rules.specs.Entries.{Deed, own, past}
 use Rattle.hx_rules.specs.Legal.{restored_at}
 use Rattle.hx_rules.specs.Versions.{last_version, version_at, versions}
 use Rattle.hx_rules_laws.specs.Frames.{same_number}
 use Rattle.hx_exit_laws.specs.Calm.{is_calm}
 use Rattle.hx_exit_laws.specs.Decisions.{closes_where_a_life_loses_nothing}
-use Rattle.hx_exit_laws.specs.Ends.{CloseBringsAllBack, ComesBack, DirtyAreBackedUp, NoneIsDirty, backed_at_end, dirty_at_end}
+use Rattle.hx_exit_laws.specs.Ends.{CloseBringsAllBack, DirtyAreBackedUp, NoneIsDirty, backed_at_end, dirty_at_end}
 
 clash : {A : Type 0} (b : Bool) → b ≡ true → b ≡ false → A
 clash b h i = absurd (let e : true ≡ false = sym h ∙ i in cc)

@@ -1,5 +1,5 @@
 -- What comes of an exit over the copies of a life.
-use Rattle.std.specs.Prelude.{◌≡◌, ◌≤◌, ◌<◌, ◌⊎◌, ℕ, zero, suc, ◌+◌, ◌==◌, nat_lt, Bool, true, false, not, ◌&&◌, List, [], ◌∷◌, ◌++◌, length, if◌then◌else◌, IsTrue, IsFalse, refl}
+use Rattle.std.specs.Prelude.{◌≡◌, ◌<◌, ◌⊎◌, ℕ, zero, suc, ◌==◌, nat_lt, Bool, true, false, not, ◌&&◌, List, [], ◌∷◌, ◌++◌, length, if◌then◌else◌, IsTrue, refl}
 use Rattle.std.proofs.Common.{arith, ap, sym, ◌∙◌, subst, inl, inr}
 use Rattle.std.proofs.lemmas.Bool.Decides.{nat_tests}
 use Rattle.hx_events.specs.declared.copies.CopyFact.{CopyFact}
@@ -8,14 +8,14 @@ use Rattle.hx_events.specs.declared.life.Life.{Life}
 use Rattle.hx_exit.specs.declared.exit.Decision.{Decision}
 use Rattle.hx_exit.specs.declared.exit.Decision.TheVariants.{Close, Confirm}
 use Rattle.hx_exit.specs.Exits.{decision_by, is_lost}
-use Rattle.hx_report.specs.Copies.{copies_at_end, copies_below, copy_fact, fact_at, fact_if}
+use Rattle.hx_report.specs.Copies.{copies_below, copy_fact, fact_at, fact_if}
 use Rattle.hx_report.specs.Tails.{opening}
 use Rattle.hx_rules.specs.Backups.{backed}
 use Rattle.hx_rules.specs.Copies.{dirty, is_number, mark, registered}
 use Rattle.hx_rules.specs.Entries.{own, past}
 use Rattle.hx_rules.specs.Legal.{Opening, restored_at}
 use Rattle.hx_rules.specs.Versions.{alternative}
-use Rattle.hx_exit_laws.specs.Ends.{AsksAboutTheLowestLost, ClosesWhereALifeLosesNothing, DirtyAreBackedUp, IsLowestLost, NoneIsDirty, is_lost_at_end}
+use Rattle.hx_exit_laws.specs.Ends.{AsksAboutTheLowestLost, ClosesWhereALifeLosesNothing, DirtyAreBackedUp, NoneIsDirty, is_lost_at_end}
 
 -- ---- copies behind others
 close_goes_on : (hot : Bool) (xs ys : List CopyFact) → decision_by hot xs ≡ Close → decision_by hot (xs ++ ys) ≡ decision_by hot ys

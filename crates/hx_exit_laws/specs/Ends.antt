@@ -1,5 +1,5 @@
 -- What an exit leaves of a life at its end.
-use Rattle.std.specs.Prelude.{◌≡◌, ◌<◌, ◌⊎◌, ◌↔◌, ℕ, Bool, not, ◌&&◌, IsTrue, IsFalse, List, [], ◌∷◌, length, Option, Some}
+use Rattle.std.specs.Prelude.{◌≡◌, ◌<◌, ◌⊎◌, ◌↔◌, ℕ, Bool, not, ◌&&◌, IsTrue, IsFalse, List, length, Some}
 use Rattle.hx_disk.specs.Disk.{Left}
 use Rattle.hx_disk.specs.File.{FileState}
 use Rattle.hx_events.specs.declared.life.Life.{Life}
