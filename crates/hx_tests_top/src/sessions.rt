@@ -19,10 +19,10 @@ use std::test::Fail;
 use std::thread::Threads;
 
 #[derive(Drop)]
-struct Session {
-    words: String,
-    input: Vec<u8>,
-    output: Vec<u8>,
+pub struct Session {
+    pub words: String,
+    pub input: Vec<u8>,
+    pub output: Vec<u8>,
     status: u8,
     told: Vec<u8>,
 }
@@ -98,6 +98,16 @@ fn take(alloc: Global, session: &mut Session, line: &str) -> Result<(), AllocErr
     Ok(())
 }
 
+/// The session of what stands behind one `$`.
+pub fn session_in(alloc: Global, part: &str) -> Result<Session, AllocError> {
+    let (words, lines) = parted(part, "\n");
+    let mut session = session_of(alloc, words)?;
+    for line in lines.split('\n') {
+        take(alloc, &mut session, line)?;
+    }
+    Ok(session)
+}
+
 fn is_judged(session: &Session, ran: &Ran) -> bool {
     !session.words.contains("--guarded") && ran.output.starts_with(b"hotexit trace 1\n")
 }
@@ -133,12 +143,8 @@ fn play_all<R: Threads + Wait + Sync + Abort + Stores>(
     text: &str,
 ) -> Result<(), Fail> {
     for part in text.split("$ ") {
-        let (words, lines) = parted(part, "\n");
-        let mut session = session_of(alloc, words)?;
-        for line in lines.split('\n') {
-            take(alloc, &mut session, line)?;
-        }
-        if !words.is_empty() {
+        let session = session_in(alloc, part)?;
+        if !session.words.is_empty() {
             plays_as_said(rt, alloc, &session)?;
         }
     }

@@ -1,15 +1,21 @@
 //! Sessions over the files of a folder.
 
-use crate::playing::{Ran, run};
+use crate::playing::{Ran, run, text_of};
+use crate::sessions::session_in;
+use crate::sessions_of_backups::BACKUPS;
+use crate::sessions_of_blocks::BLOCKS;
 use hx_disk::{Disk, FileNo};
-use hx_filedisk::FileDisk;
-use std::fs;
+use hx_filedisk::{FileDisk, Stores};
+use std::alloc::{Alloc, Global};
+use std::fs::{self, Files};
 use std::io::ErrorKind;
 use std::process::{Abort, ExitCode};
+use std::sync::Wait;
 use std::test::Fail;
+use std::thread::Threads;
 
 /// An empty folder of this name, whatever a test that was cut off has left there.
-pub fn empty_folder(rt: &HostRuntime, name: &str) -> Result<(), Fail> {
+pub fn empty_folder<R: Files + Alloc>(rt: &R, name: &str) -> Result<(), Fail> {
     match fs::remove_dir_all(rt, name) {
         Err(error) if error.kind() != ErrorKind::NotFound => Err(Fail::from("a folder is in use")),
         _ => Ok(fs::create_dir(rt, name)?),
@@ -119,4 +125,40 @@ fn one_program_at_a_time_holds_a_folder(rt: HostRuntime) -> Result<(), Fail> {
     let ran = run(&rt, alloc, "--store held replay", BACKED_UP.as_bytes())?;
     assert!(rt; ran.code == ExitCode::from(0));
     Ok(fs::remove_dir_all(&rt, "held")?)
+}
+
+/// Whether nothing in the session goes by the times of files, or by what a crash leaves.
+fn is_of_any_disk(words: &str, input: &str) -> bool {
+    (words == "replay" || words == "restore")
+        && !input.contains(" outside ")
+        && !input.contains(" open ")
+        && !input.contains(" flush ")
+        && !input.contains("crash")
+}
+
+fn plays_over_a_folder<R: Threads + Wait + Sync + Abort + Stores + Files + Alloc>(
+    rt: &R,
+    alloc: Global,
+    text: &str,
+) -> Result<u64, Fail> {
+    let mut played = 0;
+    for part in text.split("$ ") {
+        let session = session_in(alloc, part)?;
+        if is_of_any_disk(&session.words, text_of(&session.input)?) {
+            empty_folder(rt, "sessions")?;
+            let words = format!(in alloc; "--store sessions {}", session.words)?;
+            let ran = run(rt, alloc, &words, &session.input)?;
+            ends_so(rt, &ran, 0, text_of(&session.output)?, "");
+            played += 1;
+        }
+    }
+    Ok(played)
+}
+
+#[test]
+fn a_folder_serves_sessions_as_memory_does(rt: HostRuntime) -> Result<(), Fail> {
+    let alloc = rt.alloc();
+    assert_eq!(rt; plays_over_a_folder(&rt, alloc, BACKUPS)?, 9);
+    assert_eq!(rt; plays_over_a_folder(&rt, alloc, BLOCKS)?, 0);
+    Ok(fs::remove_dir_all(&rt, "sessions")?)
 }
