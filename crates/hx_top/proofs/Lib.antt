@@ -3,5 +3,5 @@ mod TooLong
 mod Played
 mod Guarded
 mod Served
-mod Asking
-mod Exits
+mod LastLife
+mod Closing

@@ -8,20 +8,25 @@ use Rattle.hx_guarded_laws.specs.Lives.{HaveKept}
 use Rattle.hx_io.specs.Streams.{AddsFront, added}
 use Rattle.hx_lives.specs.Chained.{faults_of as faults_over}
 use Rattle.hx_lives.specs.Course.{Past}
+use Rattle.hx_memdisk.specs.declared.course.Course.{Course}
+use Rattle.hx_memdisk.specs.declared.course.Plan.{Plan}
+use Rattle.hx_memdisk.specs.declared.memdisk.MemDisk.{MemDisk}
+use Rattle.hx_memdisk.specs.MemDisk.{course_of, files_of, recorded}
+use Rattle.hx_memdisk.specs.Replay.{no_file}
 use Rattle.hx_report.specs.Traces.{trace_text}
-use Rattle.hx_script.specs.declared.why.Why.{Why}
 use Rattle.hx_top.specs.declared.whole.End.{End}
 use Rattle.hx_top.specs.declared.whole.End.TheVariants.{Done, WriteFault, OpenFault}
+use Rattle.hx_top.specs.declared.words.DiskChoice.TheVariants.{Memory}
 use Rattle.hx_top.specs.declared.words.Order.TheVariants.{Play}
 use Rattle.hx_top.specs.declared.words.RunOrder.{RunOrder}
 use Rattle.hx_top.specs.declared.exits.ExitOrder.{ExitOrder}
 use Rattle.hx_top.specs.declared.words.Task.{Task}
 use Rattle.hx_top.specs.declared.words.Task.TheVariants.{Exit}
 use Rattle.hx_top.specs.Asking.{ClosesSafely}
-use Rattle.hx_top.specs.Program.{HasServed, HasServedOn, ServedBy, ServedInFolder, ServedInMemory, printed_by, refusal_by}
+use Rattle.hx_top.specs.Program.{HasServed, HasServedOn, IsNewDisk, ServedBy, ServedInFolder, ServedInMemory, printed_by, refusal_by}
 use Rattle.hx_top.specs.Runs.{HasBeenRun, run_refusal}
 use Rattle.hx_top.specs.Whole.{HavePlayed, IsOfInput, printed, refusal}
-use Rattle.hx_top.specs.Words.{order_in, run_in, stored_in}
+use Rattle.hx_top.specs.Words.{IsChosen, order_in, run_in, stored_in}
 
 printed_run : (o : Option RunOrder) (words : List (List ℕ)) (input : List ℕ) (lives : List Life) → is_some o ≡ true → printed_by o words input lives ≡ trace_text lives
 printed_run (Some order) words input lives is = refl
@@ -73,6 +78,15 @@ by_top picked tells past words input before now end a start b count lives is don
   kept = kept;
   closes = λ order none. closes order;
   open_fault = unopened;
+}
+
+-- a disk in memory of the plan that the words name
+pub new_disk : (words : List (List ℕ)) (plan : Plan) (disk : MemDisk) → IsChosen words (Memory plan) → ((f : ℕ) → files_of disk f ≡ no_file) → recorded disk ≡ 0 → course_of disk ≡ record { plan = plan; calls = 0; writes = 0; faults = 0 } → IsNewDisk words disk
+new_disk words plan disk chosen empty unused course = record {
+  planned = subst (λ (p : Plan). IsChosen words (Memory p)) (sym (ap (λ (c : Course). c.plan) course)) chosen;
+  empty = empty;
+  unused = unused;
+  no_fault = ap (λ (c : Course). c.faults) course;
 }
 
 -- where the words name a folder, and where they name none

@@ -1,9 +1,11 @@
 -- The words, setting by setting.
-use Rattle.std.specs.Prelude.{◌≡◌, ◌<◌, ◌+◌, ℕ, zero, suc, nat_le, Bool, true, false, ◌&&◌, ◌||◌, is_some, cond, List, [], ◌∷◌, ◌++◌, length, drop, count_by, Option, Some, None, String, refl}
+use Rattle.std.specs.Prelude.{◌≡◌, ◌≤◌, ◌<◌, ◌+◌, ℕ, zero, suc, nat_le, Bool, true, false, ◌&&◌, ◌||◌, is_some, cond, List, [], ◌∷◌, ◌++◌, length, drop, count_by, Option, Some, None, String, refl}
 use Rattle.std.specs.declared.alloc.Global.{Global}
 use Rattle.std.proofs.Common.{sym, ◌∙◌, ap, arith, append_assoc}
 use Rattle.std.proofs.lemmas.List.{append-nil}
 use Rattle.std.proofs.lemmas.List.Sums.{sum_by-cons}
+use Rattle.hx_exit.specs.declared.exit.Situation.{Situation}
+use Rattle.hx_top.specs.Exits.{if_none_left}
 use Rattle.hx_top.specs.declared.words.Setting.{Setting}
 use Rattle.hx_top.specs.declared.words.Setting.TheVariants.{Fail, Fuse}
 use Rattle.hx_top.specs.Words.{are_few, behind_disk, command_in, fails_of, first_setting, fuse_of, has_disk, is_fail, is_fuse, later_of, order_in, order_of, run_in, run_of, settings_before, settings_in, store_in, stored_in, texts_of, workers_behind}
@@ -153,3 +155,8 @@ none_chosen words is = (rw is, rw is)
 
 pub some_chosen : (words : List (List ℕ)) → (is_some (order_in words) || is_some (run_in words)) ≡ true → (stored_in words ≡ store_in words) × (settings_in words ≡ settings_before words)
 some_chosen words is = (rw is, rw is)
+
+-- where words are left behind the flags of an exit
+pub none_left : (words : List (String Global)) (ws : List (List ℕ)) (situation : Situation) → 1 ≤ length words → texts_of words ≡ ws → None ≡ if_none_left ws situation
+none_left [] ws situation some is = absurd (omega (arith, some))
+none_left (word ∷ words) ws situation some is = ap (λ (l : List (List ℕ)). if_none_left l situation) is

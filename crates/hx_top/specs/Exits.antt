@@ -1,6 +1,6 @@
 -- The words of `exit`, and what they ask of the end of a script. They are this project's own; the settings are those of VS Code's
 -- `files.hotExit`.
-use Rattle.std.specs.Prelude.{◌≡◌, ℕ, Bool, true, false, ◌++◌, List, [], ◌∷◌, codes, bytes_eq, drop, if◌then◌else◌, Option, Some, None}
+use Rattle.std.specs.Prelude.{ℕ, Bool, false, List, [], ◌∷◌, codes, bytes_eq, drop, if◌then◌else◌, Option, Some, None}
 use Rattle.hx_exit.specs.declared.exit.Ending.{Ending}
 use Rattle.hx_exit.specs.declared.exit.Ending.TheVariants.{Quit, CloseWindow}
 use Rattle.hx_exit.specs.declared.exit.Setting.{Setting as HotExit}

@@ -8,7 +8,6 @@ use Rattle.hx_io.specs.Streams.{AddsFront, added}
 use Rattle.hx_lives.specs.Calls.{HasGoneOn}
 use Rattle.hx_lives.specs.Chained.{faults_of as faults_over}
 use Rattle.hx_lives.specs.Course.{Past}
-use Rattle.hx_memdisk.specs.declared.course.Plan.{Plan}
 use Rattle.hx_memdisk.specs.declared.memdisk.MemDisk.{MemDisk}
 use Rattle.hx_memdisk.specs.MemDisk.{course_of, faults_of, files_of, past_of, recorded}
 use Rattle.hx_memdisk.specs.Replay.{no_file, pick_of}

@@ -30,10 +30,11 @@ pub fn exit_text(alloc: Global, order: ExitOrder, lives: &[Life]) -> Result<Vec<
     requires { AreWhole lives.now }
     ensures { IfOk result (λ text. text.items ≡ exit_text order lives.now) }
 {
-    let Some(last) = lives.len().checked_sub(1) else {
+    let count = lives.len();
+    if count == 0 {
         return Ok(Vec::new(alloc));
-    };
-    let life = &lives[last];
+    }
+    let life = &lives[count - 1];
     let copies = facts(alloc, life)?;
     let decision = decide(order.setting, order.ending, order.situation, &copies);
     decision_text(alloc, &life.names, decision)

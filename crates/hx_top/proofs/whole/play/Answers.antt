@@ -4,7 +4,7 @@ use Rattle.hx_events.specs.declared.life.Life.{Life}
 use Rattle.hx_lives.specs.Chained.{faults_of}
 use Rattle.hx_play.specs.Played.{ArePlayed}
 use Rattle.hx_top.specs.Whole.{FollowTo, is_guarded}
-use Rattle.hx_top.proofs.Exits.{played_closes}
+use Rattle.hx_top.proofs.Closing.{played_closes}
 use Rattle.hx_top.proofs.Guarded.{played_kept}
 use Rattle.hx_top.proofs.Played.{followed, of_play, opening_failed}
 use Rattle.hx_top.proofs.whole.play.Goals as goal

@@ -1,6 +1,6 @@
 use Rattle.std.proofs.Common.{◌∙◌, ap, sym, is_some}
 use Rattle.hx_top.specs.Words.{texts_of}
-use Rattle.hx_top.proofs.Settings.{stored_behind, stored_has, texts_drop, unstored_behind, unstored_has}
+use Rattle.hx_top.proofs.Settings.{stored_behind, stored_has, texts_drop, unstored_has}
 use Rattle.hx_top.proofs.words.command_in.Goals as goal
 
 pub returns-in-Some-clause-few : goal.returns-in-Some-clause-few

@@ -1,6 +1,6 @@
 -- Where an exit closed over lives that weren't guarded, all that is dirty comes back.
-use Rattle.std.specs.Prelude.{◌≡◌, ℕ, Bool, true, false, IsTrue, List, [], ◌∷◌, reverse, refl}
-use Rattle.std.proofs.Common.{ap, sym, ◌∙◌, subst, ⊎_elim}
+use Rattle.std.specs.Prelude.{◌≡◌, ℕ, Bool, false, IsTrue, List, [], ◌∷◌, reverse}
+use Rattle.std.proofs.Common.{ap, subst, ⊎_elim}
 use Rattle.hx_disk.specs.File.{FileState}
 use Rattle.hx_events.specs.declared.life.Life.{Life}
 use Rattle.hx_exit.specs.Exits.{triggers}
