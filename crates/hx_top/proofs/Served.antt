@@ -23,7 +23,7 @@ use Rattle.hx_top.specs.declared.exits.ExitOrder.{ExitOrder}
 use Rattle.hx_top.specs.declared.words.Task.{Task}
 use Rattle.hx_top.specs.declared.words.Task.TheVariants.{Exit}
 use Rattle.hx_top.specs.Asking.{ClosesSafely}
-use Rattle.hx_top.specs.Program.{HasServed, HasServedOn, IsNewDisk, ServedBy, ServedInFolder, ServedInMemory, printed_by, refusal_by}
+use Rattle.hx_top.specs.Program.{HasServed, IsNewDisk, ServedBy, ServedInMemory, printed_by, refusal_by}
 use Rattle.hx_top.specs.Runs.{HasBeenRun, run_refusal}
 use Rattle.hx_top.specs.Whole.{HavePlayed, IsOfInput, printed, refusal}
 use Rattle.hx_top.specs.Words.{IsChosen, order_in, run_in, stored_in}
@@ -89,23 +89,6 @@ new_disk words plan disk chosen empty unused course = record {
   no_fault = ap (λ (c : Course). c.faults) course;
 }
 
--- where the words name a folder, and where they name none
+-- where the words name no folder
 pub in_memory : (words : List (List ℕ)) (input before now : List ℕ) (end : End) → stored_in words ≡ None → ServedInMemory words input before now end → ServedBy (stored_in words) words input before now end
 in_memory words input before now end none served = subst (λ (o : Option (List ℕ)). ServedBy o words input before now end) (sym none) served
-
-pub in_folder : (words : List (List ℕ)) (folder input before now : List ℕ) (end : End) → stored_in words ≡ Some folder → ServedInFolder words input before now end → ServedBy (stored_in words) words input before now end
-in_folder words folder input before now end some served = subst (λ (o : Option (List ℕ)). ServedBy o words input before now end) (sym some) served
-
--- what is said of a store holds of some disk
-pub on_some : {D : Type 0} (picked : ℕ → FileState → List ℕ) (tells : Bool) (time : D → ℕ) (past : D → Past) (failures : D → ℕ) (disk : D) (words : List (List ℕ)) (input before now : List ℕ) (end : End) → HasServedOn picked tells time past failures disk words input before now end → ServedInFolder words input before now end
-on_some picked tells time past failures disk words input before now end on = record {
-  picked = picked;
-  tells = tells;
-  past = past on.back;
-  a = time disk;
-  start = failures disk;
-  b = time on.back;
-  count = failures on.back;
-  lives = on.lives;
-  served = on.served;
-}
