@@ -1,5 +1,7 @@
 //! The disk over a folder: each call of the file system that fails is counted, and behind a sync that failed none succeeds.
 
+ghost use Rattle.std.specs.Prelude.{◌≤◌};
+
 use crate::failing::Failing;
 use crate::playing::number;
 use crate::stores::empty_folder;
@@ -8,7 +10,9 @@ use hx_filedisk::{FileDisk, Folders};
 use std::fs;
 use std::test::Fail;
 
-fn failed<T>(answer: &Result<T, DiskFailed>) -> u64 {
+fn failed<T>(answer: &Result<T, DiskFailed>) -> u64
+    ensures { result ≤ 1 }
+{
     answer.is_err() as u64
 }
 

@@ -141,7 +141,7 @@ fn plays_over_a_folder<R: Threads + Wait + Sync + Abort + Stores + Files + Alloc
     alloc: Global,
     text: &str,
 ) -> Result<u64, Fail> {
-    let mut played = 0;
+    let mut played = 0u64;
     for part in text.split("$ ") {
         let session = session_in(alloc, part)?;
         if is_of_any_disk(&session.words, text_of(&session.input)?) {
@@ -149,7 +149,7 @@ fn plays_over_a_folder<R: Threads + Wait + Sync + Abort + Stores + Files + Alloc
             let words = format!(in alloc; "--store sessions {}", session.words)?;
             let ran = run(rt, alloc, &words, &session.input)?;
             ends_so(rt, &ran, 0, text_of(&session.output)?, "");
-            played += 1;
+            played = played.saturating_add(1);
         }
     }
     Ok(played)
