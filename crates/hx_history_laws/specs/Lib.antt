@@ -1,0 +1,17 @@
+pub mod Kept
+pub mod Entries
+pub mod Placed
+pub mod PairStages
+pub mod PairRuns
+pub mod Keeping
+pub mod Events
+pub mod Stages
+pub mod Frames
+pub mod Blocks
+pub mod EventRuns
+pub mod Saves
+pub mod States
+pub mod Opening
+pub mod Spans
+pub mod Gathering
+pub mod Rows
