@@ -13,6 +13,7 @@ ghost use Rattle.hx_history_laws.specs.Entries.{resource_at, taken_of};
 ghost use Rattle.hx_history_laws.specs.Keeping.{MovesPair, Owns};
 ghost use Rattle.hx_history_laws.specs.PairRuns.{PairRun};
 ghost use Rattle.hx_history_laws.specs.PairStages.{IsPairFine};
+ghost use Rattle.hx_history_laws.specs.Stamps.{AreStamped};
 
 use crate::frames::{BLOCK, behind, first_block};
 use crate::halts::Halt;
@@ -37,6 +38,7 @@ pub fn back_up<D: Disk>(
     requires taken { (pair_at vault.old pair).used ≡ Taken }
     requires unspent { vault.old.stamp < 2 ^ 64 - 1 }
     requires small { length content.now ≤ CONTENT_MAX }
+    requires within { number ≤ vault.old.stamp + 1 }
     requires held { IsTrue D.tells → (was : Option Snapshot) × Owns (resource_at number) was None false vault.old pair (D.now disk.old) }
     ensures moves { MovesPair pair vault.old vault.new }
     ensures stamp { vault.new.stamp ≤ vault.old.stamp + 1 }
@@ -44,6 +46,7 @@ pub fn back_up<D: Disk>(
     ensures run { IsTrue D.tells → (was : Option Snapshot) → Owns (resource_at number) was None false vault.old pair (D.now disk.old) → PairRun D.time D.past pair (IsPairFine (resource_at number) (was ∷ Some (taken_of (record { number = number; moment = moment; content = content.now })) ∷ []) pair) disk.old disk.new }
     ensures done { IsTrue D.tells → (was : Option Snapshot) → Owns (resource_at number) was None false vault.old pair (D.now disk.old) → OnOk result (Owns (resource_at number) (Some (taken_of (record { number = number; moment = moment; content = content.now }))) None false vault.new pair (D.now disk.new)) }
     ensures kept { IsTrue D.tells → (was : Option Snapshot) → Owns (resource_at number) was None false vault.old pair (D.now disk.old) → IsErrOf result Halt.NoMemory → Owns (resource_at number) was None false vault.new pair (D.now disk.new) }
+    ensures stamps { IsTrue D.tells → (own : Bool) → AreStamped own vault.old (D.now disk.old) → AreStamped own vault.new (D.now disk.new) }
     ensures fault { IsErrOf result Halt.Fault → Rose (D.failures disk.old) (D.failures disk.new) }
     ensures no_fault { OnOk result (D.failures disk.new ≡ D.failures disk.old) }
     ensures later { D.failures disk.old ≤ D.failures disk.new }
@@ -68,6 +71,7 @@ pub fn empty<D: Disk>(disk: &mut D, vault: &mut Vault, pair: PairNo) -> Result<(
     ensures run { IsTrue D.tells → (resource : List ℕ) (was : Snapshot) (undone : Bool) → Owns resource (Some was) None undone vault.old pair (D.now disk.old) → PairRun D.time D.past pair (IsPairFine resource (Some was ∷ None ∷ []) pair) disk.old disk.new }
     ensures quiet { IsTrue D.tells → OnOk result (IsQuietPair (pair_at vault.new pair) pair (D.now disk.new)) }
     ensures kept { IsTrue D.tells → (resource : List ℕ) (was : Snapshot) (undone : Bool) → Owns resource (Some was) None undone vault.old pair (D.now disk.old) → OnErr result ((u : Bool) × Owns resource (Some was) None u vault.new pair (D.now disk.new)) }
+    ensures stamps { IsTrue D.tells → (own : Bool) → AreStamped own vault.old (D.now disk.old) → AreStamped own vault.new (D.now disk.new) }
     ensures fault { IsErrOf result Halt.Fault → Rose (D.failures disk.old) (D.failures disk.new) }
     ensures no_fault { OnOk result (D.failures disk.new ≡ D.failures disk.old) }
     ensures later { D.failures disk.old ≤ D.failures disk.new }

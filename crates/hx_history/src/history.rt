@@ -7,6 +7,7 @@ ghost use Rattle.hx_history_laws.specs.Entries.{HaveEither, HaveEntries};
 ghost use Rattle.hx_history_laws.specs.Keeping.{AreKept, IsOrderly};
 ghost use Rattle.hx_history_laws.specs.Kept.{joins_last, last_50, next};
 ghost use Rattle.hx_history_laws.specs.PairRuns.{Moments};
+ghost use Rattle.hx_history_laws.specs.Stamps.{AreOwn, IsStampedSince, NoneAbove};
 ghost use Rattle.hx_history_laws.specs.States.{HistoryState};
 ghost use Rattle.hx_history.specs.declared.history.Refusal.{Refusal};
 
@@ -18,24 +19,28 @@ use hx_history_laws::HistoryEntry;
 use std::marker::Model;
 
 /// The saved versions of one file on a disk of their own. Contracts see the entries that are kept, the greatest stamp that was
-/// given out, and the disk.
+/// given out or found, the moment of the opening, and the disk.
 ///
 /// Its type keeps, on a disk that tells its content, that whatever a crash leaves now has exactly these entries.
 pub struct History<D: Disk> {
     parts: Parts<D>,
+
+    /// The moment of the opening.
+    opened: u64,
 }
 
 impl<D: Disk> Model for History<D> {
     ghost use Rattle.std.specs.Prelude.{IsTrue};
     ghost use Rattle.hx_history_laws.specs.Keeping.{AreKept, IsOrderly};
     ghost use Rattle.hx_history_laws.specs.Kept.{last_50};
+    ghost use Rattle.hx_history_laws.specs.Stamps.{IsStampedSince};
     ghost use Rattle.hx_history_laws.specs.States.{HistoryState};
 
     ghost Value = { HistoryState D };
 
-    ghost view = { λ h. record { entries = last_50 h.parts.entries.items; stamp = h.parts.vault.stamp; disk = h.parts.disk } };
+    ghost view = { λ h. record { entries = last_50 h.parts.entries.items; stamp = h.parts.vault.stamp; opened = h.opened; disk = h.parts.disk } };
 
-    ghost invariant = { λ h. IsOrderly h.parts.entries.items h.parts.places.items h.parts.vault × (IsTrue D.tells → AreKept h.parts.entries.items h.parts.places.items h.parts.vault (D.now h.parts.disk)) };
+    ghost invariant = { λ h. IsOrderly h.parts.entries.items h.parts.places.items h.parts.vault × (IsTrue D.tells → AreKept h.parts.entries.items h.parts.places.items h.parts.vault (D.now h.parts.disk)) × (IsTrue D.tells → IsStampedSince D.time D.past D.now h.opened h.parts.vault h.parts.disk) };
 }
 
 /// Why a save was refused.
@@ -67,12 +72,13 @@ pub enum Added<D: Disk> {
 
 impl<D: Disk> History<D> {
     /// The history of these parts.
-    pub(crate) fn of(parts: Parts<D>) -> History<D>
+    pub(crate) fn of(parts: Parts<D>, opened: u64) -> History<D>
         requires orderly { IsOrderly parts.entries.items parts.places.items parts.vault }
         requires kept { IsTrue D.tells → AreKept parts.entries.items parts.places.items parts.vault (D.now parts.disk) }
-        ensures { result ≡ record { entries = last_50 parts.entries.items; stamp = parts.vault.stamp; disk = parts.disk } }
+        requires stamped { IsTrue D.tells → IsStampedSince D.time D.past D.now opened parts.vault parts.disk }
+        ensures { result ≡ record { entries = last_50 parts.entries.items; stamp = parts.vault.stamp; opened = opened; disk = parts.disk } }
     {
-        History { parts }
+        History { parts, opened }
     }
 
     /// The last 50 entries, in order. Whatever a crash leaves now has them.
@@ -80,6 +86,8 @@ impl<D: Disk> History<D> {
         ensures entries { result.now ≡ self.now.entries }
         ensures few { length self.now.entries ≤ 50 }
         ensures kept { IsTrue D.tells → HaveEntries self.now.entries (D.now self.now.disk) }
+        ensures stamps { IsTrue D.tells → NoneAbove self.now.stamp (D.now self.now.disk) }
+        ensures own { IsTrue D.tells → AreOwn (D.past self.now.disk self.now.opened) → AreOwn (D.now self.now.disk) }
     {
         let entries = self.parts.entries.as_slice();
         &entries[entries.len() - entries.len().min(50)..]
@@ -96,7 +104,7 @@ impl<D: Disk> History<D> {
     pub fn finish(self) -> D
         ensures { result ≡ self.disk }
     {
-        let History { parts } = self;
+        let History { parts, opened: _ } = self;
         parts.into_disk()
     }
 
@@ -120,22 +128,24 @@ impl<D: Disk> History<D> {
         ensures moments_refused { IsTrue D.tells → (h : HistoryState D) (why : Refusal) → result ≡ Added.Refused h why → Moments D.time D.past (HaveEither self.entries (next self.entries (record { moment = moment; content = content.now }))) self.disk h.disk }
         ensures moments_faulted { IsTrue D.tells → (back : D) → result ≡ Added.Faulted back → Moments D.time D.past (HaveEither self.entries (next self.entries (record { moment = moment; content = content.now }))) self.disk back }
 
-        // Stamps and counts.
-        ensures later_kept { (h : HistoryState D) → result ≡ Added.Kept h → (h.stamp ≤ self.stamp + 1) × (D.failures self.disk ≤ D.failures h.disk) }
-        ensures later_merged { (h : HistoryState D) → result ≡ Added.Merged h → (h.stamp ≤ self.stamp + 1) × (D.failures self.disk ≤ D.failures h.disk) }
-        ensures later_refused { (h : HistoryState D) (why : Refusal) → result ≡ Added.Refused h why → (h.stamp ≤ self.stamp + 1) × (D.failures self.disk ≤ D.failures h.disk) }
+        // Stamps and counts. What is left by a disk that failed shows no later stamp, either.
+        ensures stamps_faulted { IsTrue D.tells → (back : D) → result ≡ Added.Faulted back → NoneAbove (self.stamp + 1) (D.now back) }
+        ensures own_faulted { IsTrue D.tells → (back : D) → result ≡ Added.Faulted back → AreOwn (D.past self.disk self.opened) → AreOwn (D.now back) }
+        ensures later_kept { (h : HistoryState D) → result ≡ Added.Kept h → (h.stamp ≤ self.stamp + 1) × (h.opened ≡ self.opened) × (D.failures self.disk ≤ D.failures h.disk) }
+        ensures later_merged { (h : HistoryState D) → result ≡ Added.Merged h → (h.stamp ≤ self.stamp + 1) × (h.opened ≡ self.opened) × (D.failures self.disk ≤ D.failures h.disk) }
+        ensures later_refused { (h : HistoryState D) (why : Refusal) → result ≡ Added.Refused h why → (h.stamp ≤ self.stamp + 1) × (h.opened ≡ self.opened) × (D.failures self.disk ≤ D.failures h.disk) }
     {
-        let History { mut parts } = self;
+        let History { mut parts, opened } = self;
         if content.len() as u64 > CONTENT_MAX {
-            return Added::Refused(History { parts }, Refusal::TooLarge);
+            return Added::Refused(History { parts, opened }, Refusal::TooLarge);
         }
         if parts.vault.is_spent() {
-            return Added::Refused(History { parts }, Refusal::Spent);
+            return Added::Refused(History { parts, opened }, Refusal::Spent);
         }
         match parts.save(moment, content) {
-            Ok(true) => Added::Merged(History { parts }),
-            Ok(false) => Added::Kept(History { parts }),
-            Err(Halt::NoMemory) => Added::Refused(History { parts }, Refusal::NoMemory),
+            Ok(true) => Added::Merged(History { parts, opened }),
+            Ok(false) => Added::Kept(History { parts, opened }),
+            Err(Halt::NoMemory) => Added::Refused(History { parts, opened }, Refusal::NoMemory),
             Err(Halt::Fault) => Added::Faulted(parts.into_disk()),
         }
     }

@@ -8,11 +8,10 @@ ghost use Rattle.hx_lives.specs.Calls.{HandsBack};
 ghost use Rattle.hx_lives.specs.Holds.{readings};
 ghost use Rattle.hx_opening_laws.specs.Findings.{AreFindings};
 ghost use Rattle.hx_opening_laws.specs.Opening.{IsVaultOpened};
-ghost use Rattle.hx_restore.specs.Values.{restored};
 ghost use Rattle.hx_slots.specs.Raws.{greatest_stamp};
 ghost use Rattle.hx_vault.specs.declared.scanning.ScanError.TheVariants.{OpenFault};
 ghost use Rattle.hx_history_laws.specs.Entries.{AreEntries, HaveEntries, backup_of_entry, resource_at};
-ghost use Rattle.hx_history_laws.specs.Opening.{IsHistory, IsHistoryOf};
+ghost use Rattle.hx_history_laws.specs.Opening.{HasHistory, IsHistory, IsHistoryOf};
 ghost use Rattle.hx_history_laws.specs.Gathering.{AreGathered};
 ghost use Rattle.hx_opening_laws.specs.FirstPairs.{IsFirstPair};
 ghost use Rattle.hx_lives.specs.CrashSafe.{found_at};
@@ -46,15 +45,16 @@ pub enum HistoryError<D> {
 impl<D: Disk> History<D> {
     /// Opens the history on the disk, an empty one where the vault is empty.
     pub fn open(alloc: Global, disk: D) -> Result<History<D>, HistoryError<D>>
-        ensures history { IsTrue D.tells → IfOk result (λ h. IsHistory (restored (readings (D.now disk))) (greatest_stamp (readings (D.now disk)))) }
+        ensures history { IsTrue D.tells → IfOk result (λ h. HasHistory (readings (D.now disk))) }
         ensures stamp { IsTrue D.tells → IfOk result (λ h. h.stamp ≡ greatest_stamp (readings (D.now disk))) }
+        ensures opened { IfOk result (λ h. h.opened ≡ D.time h.disk) }
         ensures entries { IsTrue D.tells → IfOk result (λ h. AreEntries (readings (D.now disk)) h.entries) }
         ensures kept { IsTrue D.tells → IfOk result (λ h. HaveEntries h.entries (D.now h.disk)) }
         ensures quiet { IfOk result (λ h. HandsBack D.tells D.time D.past D.failures disk h.disk) }
         ensures open_fault { (back : D) → result ≡ Err (HistoryError.OpenFault back) → HandsBack D.tells D.time D.past D.failures disk back }
         ensures no_memory { (back : D) → result ≡ Err (HistoryError.NoMemory back) → HandsBack D.tells D.time D.past D.failures disk back }
         ensures not_history { (back : D) → result ≡ Err (HistoryError.NotHistory back) → HandsBack D.tells D.time D.past D.failures disk back }
-        ensures no_history { IsTrue D.tells → (back : D) → result ≡ Err (HistoryError.NotHistory back) → IsHistory (restored (readings (D.now disk))) (greatest_stamp (readings (D.now disk))) → ⊥ }
+        ensures no_history { IsTrue D.tells → (back : D) → result ≡ Err (HistoryError.NotHistory back) → HasHistory (readings (D.now disk)) → ⊥ }
         ensures cause { (back : D) → result ≡ Err (HistoryError.OpenFault back) → Rose (D.failures disk) (D.failures back) }
     {
         let mut disk = disk;
@@ -64,13 +64,17 @@ impl<D: Disk> History<D> {
             Err(ScanError::NoMemory) => return Err(HistoryError::NoMemory(disk)),
         };
         match read_history(alloc, &found, vault.stamp()) {
-            Ok(Some((entries, places))) => Ok(History::of(Parts {
-                alloc,
-                disk,
-                vault,
-                entries,
-                places,
-            })),
+            Ok(Some((entries, places))) => {
+                let opened = disk.moment();
+                let parts = Parts {
+                    alloc,
+                    disk,
+                    vault,
+                    entries,
+                    places,
+                };
+                Ok(History::of(parts, opened))
+            }
             Ok(None) => Err(HistoryError::NotHistory(disk)),
             Err(_) => Err(HistoryError::NoMemory(disk)),
         }

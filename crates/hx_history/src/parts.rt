@@ -1,6 +1,6 @@
 //! The parts of a history, and the events on them.
 
-ghost use Rattle.std.specs.Prelude.{◌≡◌, ◌≢◌, ◌≤◌, ◌<◌, ◌+◌, ◌-◌, ◌^◌, ◌++◌, IsTrue, IsErrOf, [], ◌∷◌, length, drop, true, IfOk, OnOk, OnErr};
+ghost use Rattle.std.specs.Prelude.{◌≡◌, ◌≢◌, ◌≤◌, ◌<◌, ◌+◌, ◌-◌, ◌^◌, ◌++◌, IsTrue, IsErrOf, [], ◌∷◌, length, drop, true, IfOk, OnOk, OnErr, Bool};
 ghost use Rattle.std.proofs.Common.{set};
 ghost use Rattle.hx_faults.specs.Faults.{Rose};
 ghost use Rattle.hx_events.specs.declared.backup.TheConstants.{CONTENT_MAX};
@@ -9,6 +9,7 @@ ghost use Rattle.hx_history_laws.specs.Entries.{HaveEither, HaveEntries};
 ghost use Rattle.hx_history_laws.specs.Keeping.{AreKept, IsOrderly};
 ghost use Rattle.hx_history_laws.specs.Kept.{joins_last, last_50, last_number, next, next_number};
 ghost use Rattle.hx_history_laws.specs.PairRuns.{Moments};
+ghost use Rattle.hx_history_laws.specs.Stamps.{AreStamped};
 
 use crate::backing::{back_up, empty};
 use crate::halts::Halt;
@@ -60,6 +61,7 @@ impl<D: Disk> Parts<D> {
         ensures orderly { IsOrderly self.new.entries.items self.new.places.items self.new.vault }
         ensures kept { IsTrue D.tells → AreKept self.new.entries.items self.new.places.items self.new.vault (D.now self.new.disk) }
         ensures moments { IsTrue D.tells → Moments D.time D.past (HaveEntries (last_50 self.old.entries.items)) self.old.disk self.new.disk }
+        ensures stamps { IsTrue D.tells → (own : Bool) → AreStamped own self.old.vault (D.now self.old.disk) → AreStamped own self.new.vault (D.now self.new.disk) }
         ensures fault { IsErrOf result Halt.Fault → Rose (D.failures self.old.disk) (D.failures self.new.disk) }
         ensures no_fault { OnOk result (D.failures self.new.disk ≡ D.failures self.old.disk) }
         ensures later { D.failures self.old.disk ≤ D.failures self.new.disk }
@@ -87,6 +89,7 @@ impl<D: Disk> Parts<D> {
         ensures kept { IsTrue D.tells → OnOk result (AreKept self.new.entries.items self.new.places.items self.new.vault (D.now self.new.disk)) }
         ensures kept_left { IsTrue D.tells → IsErrOf result Halt.NoMemory → AreKept self.new.entries.items self.new.places.items self.new.vault (D.now self.new.disk) }
         ensures moments { IsTrue D.tells → Moments D.time D.past (HaveEither (last_50 self.old.entries.items) (last_50 (self.old.entries.items ++ record { number = next_number self.old.entries.items; moment = moment; content = content.now } ∷ []))) self.old.disk self.new.disk }
+        ensures stamps { IsTrue D.tells → (own : Bool) → AreStamped own self.old.vault (D.now self.old.disk) → AreStamped own self.new.vault (D.now self.new.disk) }
         ensures fault { IsErrOf result Halt.Fault → Rose (D.failures self.old.disk) (D.failures self.new.disk) }
         ensures no_fault { OnOk result (D.failures self.new.disk ≡ D.failures self.old.disk) }
         ensures later { D.failures self.old.disk ≤ D.failures self.new.disk }
@@ -142,6 +145,7 @@ impl<D: Disk> Parts<D> {
         ensures kept { IsTrue D.tells → OnOk result (AreKept self.new.entries.items self.new.places.items self.new.vault (D.now self.new.disk)) }
         ensures kept_left { IsTrue D.tells → IsErrOf result Halt.NoMemory → AreKept self.new.entries.items self.new.places.items self.new.vault (D.now self.new.disk) }
         ensures moments { IsTrue D.tells → Moments D.time D.past (HaveEither (last_50 self.old.entries.items) (last_50 (set self.old.entries.items (length self.old.entries.items - 1) (record { number = last_number self.old.entries.items; moment = moment; content = content.now })))) self.old.disk self.new.disk }
+        ensures stamps { IsTrue D.tells → (own : Bool) → AreStamped own self.old.vault (D.now self.old.disk) → AreStamped own self.new.vault (D.now self.new.disk) }
         ensures fault { IsErrOf result Halt.Fault → Rose (D.failures self.old.disk) (D.failures self.new.disk) }
         ensures no_fault { OnOk result (D.failures self.new.disk ≡ D.failures self.old.disk) }
         ensures later { D.failures self.old.disk ≤ D.failures self.new.disk }
@@ -177,6 +181,7 @@ impl<D: Disk> Parts<D> {
         ensures orderly { IsOrderly self.new.entries.items self.new.places.items self.new.vault }
         ensures kept { IsTrue D.tells → AreKept self.new.entries.items self.new.places.items self.new.vault (D.now self.new.disk) }
         ensures moments { IsTrue D.tells → Moments D.time D.past (HaveEntries (last_50 self.old.entries.items)) self.old.disk self.new.disk }
+        ensures stamps { IsTrue D.tells → (own : Bool) → AreStamped own self.old.vault (D.now self.old.disk) → AreStamped own self.new.vault (D.now self.new.disk) }
         ensures fault { IsErrOf result Halt.Fault → Rose (D.failures self.old.disk) (D.failures self.new.disk) }
         ensures later { D.failures self.old.disk ≤ D.failures self.new.disk }
     {
@@ -203,6 +208,7 @@ impl<D: Disk> Parts<D> {
         ensures kept { IsTrue D.tells → OnOk result (AreKept self.new.entries.items self.new.places.items self.new.vault (D.now self.new.disk)) }
         ensures kept_left { IsTrue D.tells → IsErrOf result Halt.NoMemory → AreKept self.new.entries.items self.new.places.items self.new.vault (D.now self.new.disk) }
         ensures moments { IsTrue D.tells → Moments D.time D.past (HaveEither (last_50 self.old.entries.items) (next (last_50 self.old.entries.items) (record { moment = moment; content = content.now }))) self.old.disk self.new.disk }
+        ensures stamps { IsTrue D.tells → (own : Bool) → AreStamped own self.old.vault (D.now self.old.disk) → AreStamped own self.new.vault (D.now self.new.disk) }
         ensures fault { IsErrOf result Halt.Fault → Rose (D.failures self.old.disk) (D.failures self.new.disk) }
         ensures later { D.failures self.old.disk ≤ D.failures self.new.disk }
     {

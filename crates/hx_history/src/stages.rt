@@ -16,6 +16,7 @@ ghost use Rattle.hx_history_laws.specs.Keeping.{MovesPair, Owns};
 ghost use Rattle.hx_history_laws.specs.PairRuns.{PairRun};
 ghost use Rattle.hx_history_laws.specs.PairStages.{IsPairFine};
 ghost use Rattle.hx_history_laws.specs.Stages.{HasFaded, HasPut};
+ghost use Rattle.hx_history_laws.specs.Stamps.{AreStamped, IsNumbered};
 
 use crate::frames::BLOCK;
 use crate::halts::Halt;
@@ -35,6 +36,7 @@ pub fn close_away<D: Disk>(disk: &mut D, vault: &mut Vault, pair: PairNo) -> Res
     ensures run { IsTrue D.tells → (resource : List ℕ) (was : Option Snapshot) → Owns resource was None false vault.old pair (D.now disk.old) → PairRun D.time D.past pair (IsPairFine resource (allowed_of was None false) pair) disk.old disk.new }
     ensures kept { IsTrue D.tells → (resource : List ℕ) (was : Option Snapshot) → Owns resource was None false vault.old pair (D.now disk.old) → Owns resource was None false vault.new pair (D.now disk.new) }
     ensures ready { IsTrue D.tells → (resource : List ℕ) (was : Option Snapshot) → Owns resource was None false vault.old pair (D.now disk.old) → OnOk result (HasPut resource was [] vault.new pair (D.now disk.new)) }
+    ensures stamps { IsTrue D.tells → (own : Bool) → AreStamped own vault.old (D.now disk.old) → AreStamped own vault.new (D.now disk.new) }
     ensures fault { IsErrOf result Halt.Fault → Rose (D.failures disk.old) (D.failures disk.new) }
     ensures no_fault { OnOk result (D.failures disk.new ≡ D.failures disk.old) }
     ensures later { D.failures disk.old ≤ D.failures disk.new }
@@ -62,6 +64,7 @@ pub fn put_block<D: Disk>(
     ensures run { IsTrue D.tells → (resource : List ℕ) (was : Option Snapshot) (put : List ℕ) → HasPut resource was put vault.old pair (D.now disk.old) → PairRun D.time D.past pair (IsPairFine resource (allowed_of was None false) pair) disk.old disk.new }
     ensures kept { IsTrue D.tells → (resource : List ℕ) (was : Option Snapshot) (put : List ℕ) → HasPut resource was put vault.old pair (D.now disk.old) → Owns resource was None false vault.new pair (D.now disk.new) }
     ensures ready { IsTrue D.tells → (resource : List ℕ) (was : Option Snapshot) (put : List ℕ) → HasPut resource was put vault.old pair (D.now disk.old) → OnOk result (HasPut resource was (put ++ block.now) vault.new pair (D.now disk.new)) }
+    ensures stamps { IsTrue D.tells → (own : Bool) → AreStamped own vault.old (D.now disk.old) → AreStamped own vault.new (D.now disk.new) }
     ensures fault { IsErrOf result Halt.Fault → Rose (D.failures disk.old) (D.failures disk.new) }
     ensures no_fault { OnOk result (D.failures disk.new ≡ D.failures disk.old) }
     ensures later { D.failures disk.old ≤ D.failures disk.new }
@@ -89,6 +92,7 @@ pub fn put_blocks<D: Disk>(
     ensures run { IsTrue D.tells → (resource : List ℕ) (was : Option Snapshot) (put : List ℕ) → HasPut resource was put vault.old pair (D.now disk.old) → PairRun D.time D.past pair (IsPairFine resource (allowed_of was None false) pair) disk.old disk.new }
     ensures kept { IsTrue D.tells → (resource : List ℕ) (was : Option Snapshot) (put : List ℕ) → HasPut resource was put vault.old pair (D.now disk.old) → Owns resource was None false vault.new pair (D.now disk.new) }
     ensures ready { IsTrue D.tells → (resource : List ℕ) (was : Option Snapshot) (put : List ℕ) → HasPut resource was put vault.old pair (D.now disk.old) → OnOk result (HasPut resource was (put ++ bytes.now) vault.new pair (D.now disk.new)) }
+    ensures stamps { IsTrue D.tells → (own : Bool) → AreStamped own vault.old (D.now disk.old) → AreStamped own vault.new (D.now disk.new) }
     ensures fault { IsErrOf result Halt.Fault → Rose (D.failures disk.old) (D.failures disk.new) }
     ensures no_fault { OnOk result (D.failures disk.new ≡ D.failures disk.old) }
     ensures later { D.failures disk.old ≤ D.failures disk.new }
@@ -108,6 +112,7 @@ pub fn open_away<D: Disk>(disk: &mut D, vault: &mut Vault, pair: PairNo) -> Resu
     ensures run { IsTrue D.tells → (resource : List ℕ) (was : Option Snapshot) (put : List ℕ) (frame : Frame) (fresh : Snapshot) → HasPut resource was put vault.old pair (D.now disk.old) → IsFrame put frame → Reads frame (backup_of resource fresh) → PairRun D.time D.past pair (IsPairFine resource (allowed_of was (Some fresh) false) pair) disk.old disk.new }
     ensures done { IsTrue D.tells → (resource : List ℕ) (was : Option Snapshot) (put : List ℕ) (frame : Frame) (fresh : Snapshot) → HasPut resource was put vault.old pair (D.now disk.old) → IsFrame put frame → Reads frame (backup_of resource fresh) → frame.stamp ≡ vault.old.stamp → OnOk result (Owns resource (Some fresh) None false vault.new pair (D.now disk.new)) }
     ensures kept { IsTrue D.tells → (resource : List ℕ) (was : Option Snapshot) (put : List ℕ) → HasPut resource was put vault.old pair (D.now disk.old) → IsErrOf result Halt.NoMemory → Owns resource was None false vault.new pair (D.now disk.new) }
+    ensures stamps { IsTrue D.tells → (own : Bool) (resource : List ℕ) (was : Option Snapshot) (put : List ℕ) (frame : Frame) → HasPut resource was put vault.old pair (D.now disk.old) → IsFrame put frame → frame.stamp ≤ vault.old.stamp → (own ≡ true → IsNumbered frame) → AreStamped own vault.old (D.now disk.old) → AreStamped own vault.new (D.now disk.new) }
     ensures fault { IsErrOf result Halt.Fault → Rose (D.failures disk.old) (D.failures disk.new) }
     ensures no_fault { OnOk result (D.failures disk.new ≡ D.failures disk.old) }
     ensures later { D.failures disk.old ≤ D.failures disk.new }
@@ -126,6 +131,7 @@ pub fn fade<D: Disk>(disk: &mut D, vault: &mut Vault, pair: PairNo) -> Result<()
     ensures run { IsTrue D.tells → (resource : List ℕ) (was : Option Snapshot) (undone : Bool) → Owns resource was None undone vault.old pair (D.now disk.old) → PairRun D.time D.past pair (IsPairFine resource (allowed_of was None undone) pair) disk.old disk.new }
     ensures kept { IsTrue D.tells → (resource : List ℕ) (was : Option Snapshot) (undone : Bool) → Owns resource was None undone vault.old pair (D.now disk.old) → Owns resource was None undone vault.new pair (D.now disk.new) }
     ensures ready { IsTrue D.tells → (resource : List ℕ) (was : Option Snapshot) (undone : Bool) → Owns resource was None undone vault.old pair (D.now disk.old) → OnOk result (HasFaded resource was undone vault.new pair (D.now disk.new)) }
+    ensures stamps { IsTrue D.tells → (own : Bool) → AreStamped own vault.old (D.now disk.old) → AreStamped own vault.new (D.now disk.new) }
     ensures fault { IsErrOf result Halt.Fault → Rose (D.failures disk.old) (D.failures disk.new) }
     ensures no_fault { OnOk result (D.failures disk.new ≡ D.failures disk.old) }
     ensures later { D.failures disk.old ≤ D.failures disk.new }
@@ -144,6 +150,7 @@ pub fn drop_home<D: Disk>(disk: &mut D, vault: &mut Vault, pair: PairNo) -> Resu
     ensures run { IsTrue D.tells → (resource : List ℕ) (was : Option Snapshot) (undone : Bool) → HasFaded resource was undone vault.old pair (D.now disk.old) → PairRun D.time D.past pair (IsPairFine resource (allowed_of was None true) pair) disk.old disk.new }
     ensures kept { IsTrue D.tells → (resource : List ℕ) (was : Option Snapshot) (undone : Bool) → HasFaded resource was undone vault.old pair (D.now disk.old) → OnErr result ((u : Bool) × Owns resource was None u vault.new pair (D.now disk.new)) }
     ensures quiet { IsTrue D.tells → (resource : List ℕ) (was : Option Snapshot) (undone : Bool) → HasFaded resource was undone vault.old pair (D.now disk.old) → OnOk result (IsQuietPair (pair_at vault.new pair) pair (D.now disk.new)) }
+    ensures stamps { IsTrue D.tells → (own : Bool) → AreStamped own vault.old (D.now disk.old) → AreStamped own vault.new (D.now disk.new) }
     ensures fault { IsErrOf result Halt.Fault → Rose (D.failures disk.old) (D.failures disk.new) }
     ensures no_fault { OnOk result (D.failures disk.new ≡ D.failures disk.old) }
     ensures later { D.failures disk.old ≤ D.failures disk.new }

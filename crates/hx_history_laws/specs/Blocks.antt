@@ -10,6 +10,7 @@ use Rattle.hx_history_laws.specs.Keeping.{MovesPair, Owns, moves_joined, moves_n
 use Rattle.hx_history_laws.specs.PairRuns.{PairRun, run_joined, run_still}
 use Rattle.hx_history_laws.specs.PairStages.{IsPairFine}
 use Rattle.hx_history_laws.specs.Stages.{HasPut, put_owns}
+use Rattle.hx_history_laws.specs.Stamps.{AreStamped}
 
 -- Of these bytes all but the rest were put behind what stood behind the gate before.
 pub record PutsFront {D : Type 0} (tells : Bool) (time : D → ℕ) (past : D → ℕ → ℕ → FileState) (now : D → ℕ → FileState) (failures : D → ℕ) (p : ℕ) (v w : VaultState) (old new : D) (bytes rest : List ℕ) : Type 0 where
@@ -20,6 +21,7 @@ pub record PutsFront {D : Type 0} (tells : Bool) (time : D → ℕ) (past : D �
   pub placed : (pair_at w p).put ≡ Some (place_of (pair_at v p) + length done)
   pub no_fault : failures new ≡ failures old
   pub run : IsTrue tells → (resource : List ℕ) (was : Option Snapshot) (put : List ℕ) → HasPut resource was put v p (now old) → PairRun time past p (IsPairFine resource (allowed_of was None false) p) old new
+  pub stamped : IsTrue tells → (own : Bool) → AreStamped own v (now old) → AreStamped own w (now new)
   pub ready : IsTrue tells → (resource : List ℕ) (was : Option Snapshot) (put : List ℕ) → HasPut resource was put v p (now old) → HasPut resource was (put ++ done) w p (now new)
 
 begun_at : (put : Option ℕ) → IsSome put → put ≡ Some (put_length put + 0)
@@ -41,6 +43,7 @@ module _ {D : Type 0} (tells : Bool) (time : D → ℕ) (past : D → ℕ → �
     no_fault = refl;
     run = λ told resource was put is. run_still time past now present p (IsPairFine resource (allowed_of was None false) p) disk disk (record { still = refl; kept = λ t f le. refl; same = λ f. refl })
         (owns_fine resource was None false v p (now disk) (put_owns resource was put v p (now disk) is));
+    stamped = λ told own is. is;
     ready = λ told resource was put is. subst (λ (l : List ℕ). HasPut resource was l v p (now disk)) (sym (append-nil put)) is;
   }
 
@@ -72,9 +75,10 @@ module _ {D : Type 0} (tells : Bool) (time : D → ℕ) (past : D → ℕ → �
     -- one block more
     pub puts_more : (w : VaultState) (new : D) (block more : List ℕ) → rest ≡ block ++ more → MovesPair p u w → w.stamp ≡ u.stamp → (pair_at w p).put ≡ Some (place_of (pair_at u p) + length block) → failures new ≡ failures mid
         → (IsTrue tells → (resource : List ℕ) (was : Option Snapshot) (put : List ℕ) → HasPut resource was put u p (now mid) → PairRun time past p (IsPairFine resource (allowed_of was None false) p) mid new)
+        → (IsTrue tells → (own : Bool) → AreStamped own u (now mid) → AreStamped own w (now new))
         → (IsTrue tells → (resource : List ℕ) (was : Option Snapshot) (put : List ℕ) → HasPut resource was put u p (now mid) → HasPut resource was (put ++ block) w p (now new))
         → PutsFront tells time past now failures p v w old new bytes more
-    puts_more w new block more is moves stamp placed no_fault run ready = record {
+    puts_more w new block more is moves stamp placed no_fault run stamped ready = record {
       done = front.done ++ block;
       parts = append_assoc front.done block more ∙ ap (λ (l : List ℕ). front.done ++ l) (sym is) ∙ front.parts;
       moves = moves_joined p v u w front.moves moves;
@@ -82,6 +86,7 @@ module _ {D : Type 0} (tells : Bool) (time : D → ℕ) (past : D → ℕ → �
       placed = placed ∙ ap (λ n. Some n) (let sum = length-append front.done block in let z : place_of (pair_at u p) + length block ≡ place_of (pair_at v p) + length (front.done ++ block) = omega (arith, sum, next_place) in z);
       no_fault = no_fault ∙ front.no_fault;
       run = λ told. front_run new told (run told);
+      stamped = λ told own at. stamped told own (front.stamped told own at);
       ready = λ told resource was put at. subst (λ (l : List ℕ). HasPut resource was l w p (now new)) (append_assoc put front.done block) (ready told resource was (put ++ front.done) (front.ready told resource was put at));
     }
 

@@ -1,5 +1,6 @@
 pub mod Kept
 pub mod Entries
+pub mod OneList
 pub mod Placed
 pub mod PairStages
 pub mod PairRuns
@@ -7,6 +8,7 @@ pub mod Keeping
 pub mod Events
 pub mod Stages
 pub mod Frames
+pub mod Stamps
 pub mod Blocks
 pub mod EventRuns
 pub mod Saves

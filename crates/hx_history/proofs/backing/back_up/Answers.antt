@@ -8,6 +8,7 @@ use Rattle.hx_history_laws.specs.Entries.{resource_at, taken_of}
 use Rattle.hx_history_laws.specs.PairRuns.{run_joined}
 use Rattle.hx_history_laws.specs.PairStages.{IsPairFine}
 use Rattle.hx_history_laws.specs.Stages.{owns_beside, run_sooner, run_none}
+use Rattle.hx_history_laws.specs.Stamps.{frame_numbered}
 use Rattle.hx_history.proofs.backing.back_up.Goals as goal
 
 pub returns-in_err-first-clause-run : goal.returns-in_err-first-clause-run
@@ -60,7 +61,7 @@ put_blocks-requires-clause-small g c =
     let at : place_of (pair_at c.put_block.new.vault c.args.pair) ≡ place_of (pair_at c.close_away.new.vault c.args.pair) + length c.deref.result.now = ap put_length c.in_ok-put_block.ensures.placed in
     let long : length c.deref.result.now ≡ length c.in_ok-first.first.items = ap (λ (l : List ℕ). length l) c.deref.ensures.value in
     let rest : c.behind.result.now ≡ drop 4096 c.args.content.now = search rules in
-    let less : length c.behind.result.now ≡ length (drop 4096 c.args.content.now) = ap (λ (l : List ℕ). length l) rest in
+    let less : length c.behind.result.now ≡ length (drop 4096 c.args.content.now) = ap (λ (l : List ℕ). length l) {y = drop 4096 c.args.content.now} rest in
     omega (arith, first, at, long, less, length-drop 4096 c.args.content.now, c.in_ok-first.ensures.short, c.requires.small)
 
 pub put_blocks-requires-clause-side : goal.put_blocks-requires-clause-side
@@ -95,7 +96,7 @@ returns-clause-run g c = λ told was owns.
     let f = c.in_ok-first.ensures.frame in
     let rest : c.behind.result.now ≡ drop 4096 c.args.content.now = search rules in
     let whole : c.deref.result.now ++ c.behind.result.now ≡ c.in_ok-first.first.items ++ drop 4096 c.args.content.now =
-        ap (λ (l : List ℕ). l ++ c.behind.result.now) c.deref.ensures.value ∙ ap (λ (l : List ℕ). c.in_ok-first.first.items ++ l) rest in
+        ap (λ (l : List ℕ). l ++ c.behind.result.now) c.deref.ensures.value ∙ ap (λ (l : List ℕ). c.in_ok-first.first.items ++ l) {y = drop 4096 c.args.content.now} rest in
     run_joined g.D.Disk.time g.D.Disk.past g.D.Disk.now g.met.D.Disk.present c.args.pair (IsPairFine r (was ∷ Some (taken_of e) ∷ []) c.args.pair) c.args.disk.now c.put_blocks.new.disk c.open_away.new.disk
     (run_sooner g.D.Disk.time g.D.Disk.past g.D.Disk.now g.met.D.Disk.present r was (taken_of e) c.args.pair c.args.disk.now c.put_blocks.new.disk
     (run_joined g.D.Disk.time g.D.Disk.past g.D.Disk.now g.met.D.Disk.present c.args.pair _ c.args.disk.now c.put_block.new.disk c.put_blocks.new.disk
@@ -113,7 +114,7 @@ returns-clause-done g c = λ told was owns.
     let f = c.in_ok-first.ensures.frame in
     let rest : c.behind.result.now ≡ drop 4096 c.args.content.now = search rules in
     let whole : c.deref.result.now ++ c.behind.result.now ≡ c.in_ok-first.first.items ++ drop 4096 c.args.content.now =
-        ap (λ (l : List ℕ). l ++ c.behind.result.now) c.deref.ensures.value ∙ ap (λ (l : List ℕ). c.in_ok-first.first.items ++ l) rest in
+        ap (λ (l : List ℕ). l ++ c.behind.result.now) c.deref.ensures.value ∙ ap (λ (l : List ℕ). c.in_ok-first.first.items ++ l) {y = drop 4096 c.args.content.now} rest in
     c.open_away.ensures.done told r was _ f.frame (taken_of e) put (subst (λ (l : List ℕ). IsFrame l f.frame) (sym whole) f.whole) f.reads
     (f.stamped ∙ ap (λ n. n + 1) c.stamp.ensures ∙ sym c.in_ok-close_away.ensures.stamped ∙ sym c.put_block.ensures.stamp ∙ sym c.put_blocks.ensures.stamp)
 
@@ -122,3 +123,26 @@ returns-clause-kept g c = λ told was owns want.
     let r : List ℕ = resource_at c.args.number in
     let first = c.in_ok-put_block.ensures.ready told r was [] (c.in_ok-close_away.ensures.ready told r was owns) in
     c.open_away.ensures.kept told r was _ (c.in_ok-put_blocks.ensures.ready told r was c.deref.result.now first) want
+
+pub returns-in_err-put_block-clause-stamps : goal.returns-in_err-put_block-clause-stamps
+returns-in_err-put_block-clause-stamps g c = λ told own stamped. c.put_block.ensures.stamps told own (c.close_away.ensures.stamps told own stamped)
+
+pub returns-in_err-put_blocks-clause-stamps : goal.returns-in_err-put_blocks-clause-stamps
+returns-in_err-put_blocks-clause-stamps g c = λ told own stamped. c.put_blocks.ensures.stamps told own (c.put_block.ensures.stamps told own (c.close_away.ensures.stamps told own stamped))
+
+pub returns-clause-stamps : goal.returns-clause-stamps
+returns-clause-stamps g c = λ told own stamped.
+    let e : HistoryEntry = record { number = c.args.number; moment = c.args.moment; content = c.args.content.now } in
+    let r : List ℕ = resource_at c.args.number in
+    let h = c.requires.held told in
+    let first = c.in_ok-put_block.ensures.ready told r h.0 [] (c.in_ok-close_away.ensures.ready told r h.0 h.1) in
+    let put = c.in_ok-put_blocks.ensures.ready told r h.0 c.deref.result.now first in
+    let f = c.in_ok-first.ensures.frame in
+    let rest : c.behind.result.now ≡ drop 4096 c.args.content.now = search rules in
+    let whole : c.deref.result.now ++ c.behind.result.now ≡ c.in_ok-first.first.items ++ drop 4096 c.args.content.now =
+        ap (λ (l : List ℕ). l ++ c.behind.result.now) c.deref.ensures.value ∙ ap (λ (l : List ℕ). c.in_ok-first.first.items ++ l) {y = drop 4096 c.args.content.now} rest in
+    let given : f.frame.stamp ≡ c.args.vault.now.stamp + 1 = f.stamped ∙ ap (λ n. n + 1) c.stamp.ensures in
+    let counter : f.frame.stamp ≡ c.put_blocks.new.vault.stamp = given ∙ sym c.in_ok-close_away.ensures.stamped ∙ sym c.put_block.ensures.stamp ∙ sym c.put_blocks.ensures.stamp in
+    c.open_away.ensures.stamps told own r h.0 _ f.frame put (subst (λ (l : List ℕ). IsFrame l f.frame) (sym whole) f.whole) (omega (arith, counter))
+    (λ is_own. frame_numbered f.frame e (omega arith) (omega (arith, given, c.requires.within)) f.reads)
+    (c.put_blocks.ensures.stamps told own (c.put_block.ensures.stamps told own (c.close_away.ensures.stamps told own stamped)))

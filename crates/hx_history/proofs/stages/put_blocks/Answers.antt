@@ -36,7 +36,7 @@ loop-block-preserved g c = record {
   size = c.in-Some.ensures.steps.0 ∙ c.loop-block.invariant.size;
   front = puts_more g.D.Disk.tells g.D.Disk.time g.D.Disk.past g.D.Disk.now g.met.D.Disk.present g.D.Disk.failures c.args.pair c.args.vault.now c.loop-block.vault c.args.disk.now c.loop-block.disk c.args.bytes.now (chunks_rest c.loop-block.block-iterator) c.loop-block.invariant.front
       c.put_block.new.vault c.put_block.new.disk c.in-Some.block.now (chunks_rest c.next.new.self) c.in-Some.ensures.steps.1.0 c.put_block.ensures.moves c.put_block.ensures.stamp c.in_ok-put_block.ensures.placed c.in_ok-put_block.ensures.no_fault
-      c.in_ok-put_block.ensures.run c.in_ok-put_block.ensures.ready;
+      c.in_ok-put_block.ensures.run c.put_block.ensures.stamps c.in_ok-put_block.ensures.ready;
 }
 
 pub returns-in_err-put_block-clause-run : goal.returns-in_err-put_block-clause-run
@@ -55,3 +55,9 @@ returns-clause-ready g c = λ told. puts_all g.D.Disk.tells g.D.Disk.time g.D.Di
 
 pub returns-clause-kept : goal.returns-clause-kept
 returns-clause-kept g c = λ told resource was put is. put_owns resource was _ c.loop-block.vault c.args.pair (g.D.Disk.now c.loop-block.disk) (c.loop-block.invariant.front.ready told resource was put is)
+
+pub returns-in_err-put_block-clause-stamps : goal.returns-in_err-put_block-clause-stamps
+returns-in_err-put_block-clause-stamps g c = λ told own stamped. c.put_block.ensures.stamps told own (c.loop-block.invariant.front.stamped told own stamped)
+
+pub returns-clause-stamps : goal.returns-clause-stamps
+returns-clause-stamps g c = λ told own stamped. c.loop-block.invariant.front.stamped told own stamped

@@ -6,7 +6,7 @@ use Rattle.hx_opening_laws.specs.Opening.{IsVaultOpened}
 use Rattle.hx_vault.specs.Vaults.{VaultState}
 use Rattle.hx_history_laws.specs.declared.entry.HistoryEntry.{HistoryEntry}
 use Rattle.hx_history_laws.specs.Entries.{AreEntries, HaveEntries}
-use Rattle.hx_history_laws.specs.Opening.{IsHistory, IsHistoryOf, opened_all, opened_orderly, entries_after, entries_before, history_after, history_before, stamp_before}
+use Rattle.hx_history_laws.specs.Opening.{IsHistory, IsHistoryOf, opened_all, opened_orderly, opened_since, entries_after, entries_before, history_after, history_before, stamp_before}
 use Rattle.hx_history_laws.specs.States.{HistoryState}
 use Rattle.hx_history.proofs.history.History.open.Goals as goal
 
@@ -38,6 +38,13 @@ of-requires-clause-kept g c = λ told.
     let is : IsHistoryOf c.deref.result.now c.stamp.result es places = search rules in
     let mine : IsHistoryOf found v.stamp es places = subst (λ n. IsHistoryOf found n es places) c.stamp.ensures (subst (λ (l : List PairFound). IsHistoryOf l c.stamp.result es places) c.deref.ensures.value is) in
     opened_all g.D.Disk.tells g.D.Disk.now v found c.open_vault.new.disk es places opened mine told
+
+pub of-requires-clause-stamped : goal.of-requires-clause-stamped
+of-requires-clause-stamped g c = λ told.
+    let v : VaultState = c.in-Ok.opened.0 in
+    let found : List PairFound = c.in-Ok.opened.1.items in
+    let opened : IsVaultOpened g.D.Disk.tells g.D.Disk.now v found c.open_vault.new.disk = c.in-Ok.ensures.opened in
+    opened_since g.D.Disk.tells g.D.Disk.time g.D.Disk.past g.D.Disk.now g.met.D.Disk.present g.met.D.Disk.sound v found c.open_vault.new.disk c.moment-opened.result c.moment-opened.ensures opened told
 
 pub returns-in-Ok-Some-clause-history : goal.returns-in-Ok-Some-clause-history
 returns-in-Ok-Some-clause-history g c = λ told.

@@ -10,6 +10,9 @@ use Rattle.hx_history_laws.specs.Kept.{last_50, last_number, number_at_last, nex
 use Rattle.hx_history_laws.specs.PairRuns.{Moments}
 use Rattle.hx_history_laws.specs.Stages.{owns_quiet, quiet_files}
 use Rattle.hx_history_laws.specs.Placed.{place_at}
+use Rattle.std.proofs.lemmas.List.{length-set}
+use Rattle.hx_history_laws.specs.EventRuns.{fresh_within}
+use Rattle.hx_history_laws.specs.Stamps.{used_stamped}
 use Rattle.hx_history.proofs.parts.Parts.add_group.Goals as goal
 
 pub returns-in_err-from_slice-clause-moments : goal.returns-in_err-from_slice-clause-moments
@@ -58,7 +61,6 @@ returns-in-Ok-clause-orderly g c =
     let u : VaultState = c.take.new.self in
     let e : HistoryEntry = record { number = c.number_behind-number.result; moment = c.args.moment; content = c.args.content.now } in
     let number : e.number ≡ next_number es = search rules in
-    let content : c.new-copy.result ≡ c.args.content.now = search rules in
     let written : c.push_reserved.new.self.items ≡ es ++ e ∷ [] = search rules in
     let beside : c.push_reserved-in-Ok.new.self.items ≡ places ++ p ∷ [] = search rules in
     subst (λ (l : List HistoryEntry). IsOrderly l c.push_reserved-in-Ok.new.self.items c.back_up.new.vault) (sym written)
@@ -75,7 +77,6 @@ returns-in-Ok-clause-kept g c = λ told.
     let e : HistoryEntry = record { number = c.number_behind-number.result; moment = c.args.moment; content = c.args.content.now } in
     let number : e.number ≡ next_number es = search rules in
     let kept = c.requires.kept told in
-    let content : c.new-copy.result ≡ c.args.content.now = search rules in
     let written : c.push_reserved.new.self.items ≡ es ++ e ∷ [] = search rules in
     let beside : c.push_reserved-in-Ok.new.self.items ≡ places ++ p ∷ [] = search rules in
     subst (λ (l : List HistoryEntry). AreKept l c.push_reserved-in-Ok.new.self.items c.back_up.new.vault (g.D.Disk.now c.back_up.new.disk)) (sym written)
@@ -161,3 +162,38 @@ returns-clause-moments g c = λ told.
     let kept = c.requires.kept told in
     let more : es ++ e ∷ [] ≡ es ++ record { number = next_number es; moment = c.args.moment; content = c.args.content.now } ∷ [] = ap (λ n. es ++ record { number = n; moment = c.args.moment; content = c.args.content.now } ∷ []) number in
     subst (λ (l : List HistoryEntry). Moments g.D.Disk.time g.D.Disk.past (HaveEither (last_50 es) (last_50 l)) s.disk c.back_up.new.disk) more (fresh_moments g.D.Disk.time g.D.Disk.past g.D.Disk.now g.met.D.Disk.present es places s.vault u c.back_up.new.vault s.disk c.back_up.new.disk p e c.requires.orderly c.requires.few (omega arith) c.in-Some.ensures.0 c.take.ensures c.requires.unspent number kept (c.back_up.ensures.run told None (fresh_owns g.D.Disk.time g.D.Disk.past g.D.Disk.now g.met.D.Disk.present es places s.vault u u s.disk s.disk p e c.requires.orderly c.requires.few (omega arith) c.in-Some.ensures.0 c.take.ensures c.requires.unspent number kept)))
+
+pub back_up-requires-clause-within : goal.back_up-requires-clause-within
+back_up-requires-clause-within g c =
+    let s = c.args.self.now in
+    let es : List HistoryEntry = s.entries.items in
+    let e : HistoryEntry = record { number = c.number_behind-number.result; moment = c.args.moment; content = c.args.content.now } in
+    let number : e.number ≡ next_number es = search rules in
+    let within = fresh_within g.D.Disk.time g.D.Disk.past g.D.Disk.now g.met.D.Disk.present es s.places.items s.vault c.take.new.self c.take.new.self s.disk s.disk c.in-Some.pair e c.requires.orderly c.requires.few (omega arith) c.in-Some.ensures.0 c.take.ensures c.requires.unspent number in
+    let same : c.take.new.self.stamp ≡ s.vault.stamp = ap (λ (k : VaultState). k.stamp) c.take.ensures in
+    omega (arith, within, same)
+
+pub returns-in-Ok-clause-stamps : goal.returns-in-Ok-clause-stamps
+returns-in-Ok-clause-stamps g c = λ told own stamped.
+    let s = c.args.self.now in
+    let p : ℕ = c.in-Some.pair in
+    let u : VaultState = c.take.new.self in
+    let held = used_stamped own s.vault u p Taken (g.D.Disk.now s.disk) c.requires.orderly.pairs (omega arith) c.take.ensures stamped in
+    c.back_up.ensures.stamps told own held
+
+pub returns-in-Err-NoMemory-clause-stamps : goal.returns-in-Err-NoMemory-clause-stamps
+returns-in-Err-NoMemory-clause-stamps g c = λ told own stamped.
+    let s = c.args.self.now in
+    let p : ℕ = c.in-Some.pair in
+    let u : VaultState = c.take.new.self in
+    let held = used_stamped own s.vault u p Taken (g.D.Disk.now s.disk) c.requires.orderly.pairs (omega arith) c.take.ensures stamped in
+    let count : length u.pairs ≡ 64 = ap (λ (k : VaultState). length k.pairs) c.take.ensures ∙ length-set s.vault.pairs p _ ∙ c.requires.orderly.pairs in
+    used_stamped own c.back_up.new.vault c.release.new.self p Free (g.D.Disk.now c.back_up.new.disk) (c.back_up.ensures.moves.count ∙ count) (omega arith) c.release.ensures (c.back_up.ensures.stamps told own held)
+
+pub returns-clause-stamps : goal.returns-clause-stamps
+returns-clause-stamps g c = λ told own stamped.
+    let s = c.args.self.now in
+    let p : ℕ = c.in-Some.pair in
+    let u : VaultState = c.take.new.self in
+    let held = used_stamped own s.vault u p Taken (g.D.Disk.now s.disk) c.requires.orderly.pairs (omega arith) c.take.ensures stamped in
+    c.back_up.ensures.stamps told own held

@@ -9,6 +9,7 @@ use Rattle.hx_history_laws.specs.Keeping.{AreKept, IsOrderly}
 use Rattle.hx_history_laws.specs.Kept.{last_50, last_number, number_at_last, next_number, next_at_last}
 use Rattle.hx_history_laws.specs.PairRuns.{Moments}
 use Rattle.hx_history_laws.specs.Placed.{place_at}
+use Rattle.hx_history_laws.specs.EventRuns.{last_within}
 use Rattle.hx_history.proofs.parts.Parts.merge.Goals as goal
 
 pub returns-in_err-from_slice-clause-moments : goal.returns-in_err-from_slice-clause-moments
@@ -28,7 +29,6 @@ back_up-requires-clause-held g c = λ told.
     let e : HistoryEntry = record { number = old.number; moment = c.args.moment; content = c.args.content.now } in
     let same : e.number ≡ (entry_at es (length es - 1)).number = ap (λ (x : HistoryEntry). x.number) is_old in
     let at : p ≡ place_at places (length es - 1) = place_read places (length es - 1) p (let n = c.requires.orderly.placed.count in omega (arith, n, c.requires.some)) (c.index-pair.ensures ∙ ap (λ n. slice_index_or places (n - 1) p) len) in
-    let number : old.number ≡ last_number es = same ∙ sym (number_at_last es no_entry c.requires.some) in
     let kept = c.requires.kept told in
     ((Some (taken_of (entry_at es (length es - 1)))), (last_owns g.D.Disk.time g.D.Disk.past g.D.Disk.now g.met.D.Disk.present es places s.vault s.vault s.disk s.disk p e at c.requires.orderly c.requires.few c.requires.some same kept))
 
@@ -44,7 +44,6 @@ returns-in_err-back_up-clause-orderly_left g c = λ want.
     let e : HistoryEntry = record { number = old.number; moment = c.args.moment; content = c.args.content.now } in
     let same : e.number ≡ (entry_at es (length es - 1)).number = ap (λ (x : HistoryEntry). x.number) is_old in
     let at : p ≡ place_at places (length es - 1) = place_read places (length es - 1) p (let n = c.requires.orderly.placed.count in omega (arith, n, c.requires.some)) (c.index-pair.ensures ∙ ap (λ n. slice_index_or places (n - 1) p) len) in
-    let number : old.number ≡ last_number es = same ∙ sym (number_at_last es no_entry c.requires.some) in
     last_orderly_left g.D.Disk.time g.D.Disk.past g.D.Disk.now g.met.D.Disk.present es places s.vault c.back_up.new.vault s.disk c.back_up.new.disk p e at c.requires.orderly c.requires.few c.requires.some same c.back_up.ensures.moves c.back_up.ensures.stamp c.requires.unspent
 
 pub returns-in_err-back_up-clause-kept_left : goal.returns-in_err-back_up-clause-kept_left
@@ -59,7 +58,6 @@ returns-in_err-back_up-clause-kept_left g c = λ told want.
     let e : HistoryEntry = record { number = old.number; moment = c.args.moment; content = c.args.content.now } in
     let same : e.number ≡ (entry_at es (length es - 1)).number = ap (λ (x : HistoryEntry). x.number) is_old in
     let at : p ≡ place_at places (length es - 1) = place_read places (length es - 1) p (let n = c.requires.orderly.placed.count in omega (arith, n, c.requires.some)) (c.index-pair.ensures ∙ ap (λ n. slice_index_or places (n - 1) p) len) in
-    let number : old.number ≡ last_number es = same ∙ sym (number_at_last es no_entry c.requires.some) in
     let kept = c.requires.kept told in
     last_left g.D.Disk.time g.D.Disk.past g.D.Disk.now g.met.D.Disk.present es places s.vault c.back_up.new.vault s.disk c.back_up.new.disk p e at c.requires.orderly c.requires.few c.requires.some same kept c.back_up.ensures.moves (c.in_err-back_up.ensures.run told (Some (taken_of (entry_at es (length es - 1)))) (last_owns g.D.Disk.time g.D.Disk.past g.D.Disk.now g.met.D.Disk.present es places s.vault s.vault s.disk s.disk p e at c.requires.orderly c.requires.few c.requires.some same kept)) (c.in_err-back_up.ensures.kept told (Some (taken_of (entry_at es (length es - 1)))) (last_owns g.D.Disk.time g.D.Disk.past g.D.Disk.now g.met.D.Disk.present es places s.vault s.vault s.disk s.disk p e at c.requires.orderly c.requires.few c.requires.some same kept) (search rules))
 
@@ -84,14 +82,11 @@ pub returns-clause-number : goal.returns-clause-number
 returns-clause-number g c =
     let s = c.args.self.now in
     let es : List HistoryEntry = s.entries.items in
-    let places : List ℕ = s.places.items in
-    let p : ℕ = c.index-pair.result.now in
     let len : c.len-last.result ≡ length es = search rules in
     let old : HistoryEntry = c.index.result.now in
     let is_old : old ≡ entry_at es (length es - 1) = entry_read es (length es - 1) old (omega (arith, c.requires.some)) (c.index.ensures ∙ ap (λ n. slice_index_or es (n - 1) old) len) in
     let e : HistoryEntry = record { number = old.number; moment = c.args.moment; content = c.args.content.now } in
     let same : e.number ≡ (entry_at es (length es - 1)).number = ap (λ (x : HistoryEntry). x.number) is_old in
-    let at : p ≡ place_at places (length es - 1) = place_read places (length es - 1) p (let n = c.requires.orderly.placed.count in omega (arith, n, c.requires.some)) (c.index-pair.ensures ∙ ap (λ n. slice_index_or places (n - 1) p) len) in
     let number : old.number ≡ last_number es = same ∙ sym (number_at_last es no_entry c.requires.some) in
     number
 
@@ -99,14 +94,11 @@ pub returns-clause-entries : goal.returns-clause-entries
 returns-clause-entries g c =
     let s = c.args.self.now in
     let es : List HistoryEntry = s.entries.items in
-    let places : List ℕ = s.places.items in
-    let p : ℕ = c.index-pair.result.now in
     let len : c.len-last.result ≡ length es = search rules in
     let old : HistoryEntry = c.index.result.now in
     let is_old : old ≡ entry_at es (length es - 1) = entry_read es (length es - 1) old (omega (arith, c.requires.some)) (c.index.ensures ∙ ap (λ n. slice_index_or es (n - 1) old) len) in
     let e : HistoryEntry = record { number = old.number; moment = c.args.moment; content = c.args.content.now } in
     let same : e.number ≡ (entry_at es (length es - 1)).number = ap (λ (x : HistoryEntry). x.number) is_old in
-    let at : p ≡ place_at places (length es - 1) = place_read places (length es - 1) p (let n = c.requires.orderly.placed.count in omega (arith, n, c.requires.some)) (c.index-pair.ensures ∙ ap (λ n. slice_index_or places (n - 1) p) len) in
     let number : old.number ≡ last_number es = same ∙ sym (number_at_last es no_entry c.requires.some) in
     let more : set es (length es - 1) e ≡ set es (length es - 1) (record { number = last_number es; moment = c.args.moment; content = c.args.content.now }) = ap (λ n. set es (length es - 1) (record { number = n; moment = c.args.moment; content = c.args.content.now })) number in
     let written : set es (c.len-last.result - 1) (record { number = old.number; moment = c.args.moment; content = c.new-copy.result }) ≡ set es (length es - 1) e =
@@ -169,3 +161,18 @@ returns-clause-moments g c = λ told.
     let kept = c.requires.kept told in
     let more : set es (length es - 1) e ≡ set es (length es - 1) (record { number = last_number es; moment = c.args.moment; content = c.args.content.now }) = ap (λ n. set es (length es - 1) (record { number = n; moment = c.args.moment; content = c.args.content.now })) number in
     subst (λ (l : List HistoryEntry). Moments g.D.Disk.time g.D.Disk.past (HaveEither (last_50 es) (last_50 l)) s.disk c.back_up.new.disk) more (last_moments g.D.Disk.time g.D.Disk.past g.D.Disk.now g.met.D.Disk.present es places s.vault c.back_up.new.vault s.disk c.back_up.new.disk p e at c.requires.orderly c.requires.few c.requires.some same kept (c.in_ok-back_up.ensures.run told (Some (taken_of (entry_at es (length es - 1)))) (last_owns g.D.Disk.time g.D.Disk.past g.D.Disk.now g.met.D.Disk.present es places s.vault s.vault s.disk s.disk p e at c.requires.orderly c.requires.few c.requires.some same kept)))
+
+pub back_up-requires-clause-within : goal.back_up-requires-clause-within
+back_up-requires-clause-within g c =
+    let s = c.args.self.now in
+    let es : List HistoryEntry = s.entries.items in
+    let places : List ℕ = s.places.items in
+    let p : ℕ = c.index-pair.result.now in
+    let len : c.len-last.result ≡ length es = search rules in
+    let old : HistoryEntry = c.index.result.now in
+    let is_old : old ≡ entry_at es (length es - 1) = entry_read es (length es - 1) old (omega (arith, c.requires.some)) (c.index.ensures ∙ ap (λ n. slice_index_or es (n - 1) old) len) in
+    let e : HistoryEntry = record { number = old.number; moment = c.args.moment; content = c.args.content.now } in
+    let same : e.number ≡ (entry_at es (length es - 1)).number = ap (λ (x : HistoryEntry). x.number) is_old in
+    let at : p ≡ place_at places (length es - 1) = place_read places (length es - 1) p (let n = c.requires.orderly.placed.count in omega (arith, n, c.requires.some)) (c.index-pair.ensures ∙ ap (λ n. slice_index_or places (n - 1) p) len) in
+    let within = last_within g.D.Disk.time g.D.Disk.past g.D.Disk.now g.met.D.Disk.present es places s.vault s.vault s.disk s.disk p e at c.requires.orderly c.requires.few c.requires.some same in
+    omega (arith, within)

@@ -20,26 +20,14 @@ merge-requires-clause-few g c =
     let es : List HistoryEntry = s.entries.items in
     let mid = c.catch_up.new.self in
     let ms : List HistoryEntry = mid.entries.items in
-    let sv : Save = record { moment = c.args.moment; content = c.args.content.now } in
     let done : ms ≡ last_50 es = c.in_ok-catch_up.ensures.done in
-    let twice : last_50 (last_50 es) ≡ last_50 es = last_twice es c.requires.orderly.placed.few in
-    let same : last_50 ms ≡ last_50 es = ap (λ (l : List HistoryEntry). last_50 l) done ∙ twice in
     let few : length ms ≤ 50 = (let l : length ms ≡ length (last_50 es) = ap (λ (l : List HistoryEntry). length l) done in let f = c.requires.orderly.placed.few in omega (arith, l, length-drop (length es - 50) es, f)) in
-    let nexts : next ms sv ≡ next (last_50 es) sv = ap (λ (l : List HistoryEntry). next l sv) done in
     few
 
 pub merge-requires-clause-some : goal.merge-requires-clause-some
 merge-requires-clause-some g c =
-    let s = c.args.self.now in
-    let es : List HistoryEntry = s.entries.items in
     let mid = c.catch_up.new.self in
     let ms : List HistoryEntry = mid.entries.items in
-    let sv : Save = record { moment = c.args.moment; content = c.args.content.now } in
-    let done : ms ≡ last_50 es = c.in_ok-catch_up.ensures.done in
-    let twice : last_50 (last_50 es) ≡ last_50 es = last_twice es c.requires.orderly.placed.few in
-    let same : last_50 ms ≡ last_50 es = ap (λ (l : List HistoryEntry). last_50 l) done ∙ twice in
-    let few : length ms ≤ 50 = (let l : length ms ≡ length (last_50 es) = ap (λ (l : List HistoryEntry). length l) done in let f = c.requires.orderly.placed.few in omega (arith, l, length-drop (length es - 50) es, f)) in
-    let nexts : next ms sv ≡ next (last_50 es) sv = ap (λ (l : List HistoryEntry). next l sv) done in
     let joined : c.does_join.result ≡ joins_last ms c.args.moment = c.does_join.ensures ∙ ap (λ (l : List HistoryEntry). joins_last l c.args.moment) c.deref.ensures.value in
     let is : joins_last ms c.args.moment ≡ true = sym joined ∙ c.if-does_join.true in
     some_joined ms c.args.moment is
@@ -50,12 +38,8 @@ add_group-requires-clause-few g c =
     let es : List HistoryEntry = s.entries.items in
     let mid = c.catch_up.new.self in
     let ms : List HistoryEntry = mid.entries.items in
-    let sv : Save = record { moment = c.args.moment; content = c.args.content.now } in
     let done : ms ≡ last_50 es = c.in_ok-catch_up.ensures.done in
-    let twice : last_50 (last_50 es) ≡ last_50 es = last_twice es c.requires.orderly.placed.few in
-    let same : last_50 ms ≡ last_50 es = ap (λ (l : List HistoryEntry). last_50 l) done ∙ twice in
     let few : length ms ≤ 50 = (let l : length ms ≡ length (last_50 es) = ap (λ (l : List HistoryEntry). length l) done in let f = c.requires.orderly.placed.few in omega (arith, l, length-drop (length es - 50) es, f)) in
-    let nexts : next ms sv ≡ next (last_50 es) sv = ap (λ (l : List HistoryEntry). next l sv) done in
     few
 
 pub returns-in_err-merge-clause-left : goal.returns-in_err-merge-clause-left
@@ -64,12 +48,9 @@ returns-in_err-merge-clause-left g c = λ want.
     let es : List HistoryEntry = s.entries.items in
     let mid = c.catch_up.new.self in
     let ms : List HistoryEntry = mid.entries.items in
-    let sv : Save = record { moment = c.args.moment; content = c.args.content.now } in
     let done : ms ≡ last_50 es = c.in_ok-catch_up.ensures.done in
     let twice : last_50 (last_50 es) ≡ last_50 es = last_twice es c.requires.orderly.placed.few in
     let same : last_50 ms ≡ last_50 es = ap (λ (l : List HistoryEntry). last_50 l) done ∙ twice in
-    let few : length ms ≤ 50 = (let l : length ms ≡ length (last_50 es) = ap (λ (l : List HistoryEntry). length l) done in let f = c.requires.orderly.placed.few in omega (arith, l, length-drop (length es - 50) es, f)) in
-    let nexts : next ms sv ≡ next (last_50 es) sv = ap (λ (l : List HistoryEntry). next l sv) done in
     ap (λ (l : List HistoryEntry). last_50 l) (c.in_err-merge.ensures.left (search rules)) ∙ same
 
 pub returns-in_err-merge-clause-moments : goal.returns-in_err-merge-clause-moments
@@ -82,7 +63,6 @@ returns-in_err-merge-clause-moments g c = λ told.
     let done : ms ≡ last_50 es = c.in_ok-catch_up.ensures.done in
     let twice : last_50 (last_50 es) ≡ last_50 es = last_twice es c.requires.orderly.placed.few in
     let same : last_50 ms ≡ last_50 es = ap (λ (l : List HistoryEntry). last_50 l) done ∙ twice in
-    let few : length ms ≤ 50 = (let l : length ms ≡ length (last_50 es) = ap (λ (l : List HistoryEntry). length l) done in let f = c.requires.orderly.placed.few in omega (arith, l, length-drop (length es - 50) es, f)) in
     let nexts : next ms sv ≡ next (last_50 es) sv = ap (λ (l : List HistoryEntry). next l sv) done in
     let joined : c.does_join.result ≡ joins_last ms c.args.moment = c.does_join.ensures ∙ ap (λ (l : List HistoryEntry). joins_last l c.args.moment) c.deref.ensures.value in
     let is : joins_last ms c.args.moment ≡ true = sym joined ∙ c.if-does_join.true in
@@ -95,12 +75,7 @@ returns-then-does_join-clause-joined g c =
     let es : List HistoryEntry = s.entries.items in
     let mid = c.catch_up.new.self in
     let ms : List HistoryEntry = mid.entries.items in
-    let sv : Save = record { moment = c.args.moment; content = c.args.content.now } in
     let done : ms ≡ last_50 es = c.in_ok-catch_up.ensures.done in
-    let twice : last_50 (last_50 es) ≡ last_50 es = last_twice es c.requires.orderly.placed.few in
-    let same : last_50 ms ≡ last_50 es = ap (λ (l : List HistoryEntry). last_50 l) done ∙ twice in
-    let few : length ms ≤ 50 = (let l : length ms ≡ length (last_50 es) = ap (λ (l : List HistoryEntry). length l) done in let f = c.requires.orderly.placed.few in omega (arith, l, length-drop (length es - 50) es, f)) in
-    let nexts : next ms sv ≡ next (last_50 es) sv = ap (λ (l : List HistoryEntry). next l sv) done in
     let joined : c.does_join.result ≡ joins_last ms c.args.moment = c.does_join.ensures ∙ ap (λ (l : List HistoryEntry). joins_last l c.args.moment) c.deref.ensures.value in
     let is : joins_last ms c.args.moment ≡ true = sym joined ∙ c.if-does_join.true in
     sym is ∙ ap (λ (l : List HistoryEntry). joins_last l c.args.moment) done
@@ -113,9 +88,6 @@ returns-then-does_join-clause-saved g c =
     let ms : List HistoryEntry = mid.entries.items in
     let sv : Save = record { moment = c.args.moment; content = c.args.content.now } in
     let done : ms ≡ last_50 es = c.in_ok-catch_up.ensures.done in
-    let twice : last_50 (last_50 es) ≡ last_50 es = last_twice es c.requires.orderly.placed.few in
-    let same : last_50 ms ≡ last_50 es = ap (λ (l : List HistoryEntry). last_50 l) done ∙ twice in
-    let few : length ms ≤ 50 = (let l : length ms ≡ length (last_50 es) = ap (λ (l : List HistoryEntry). length l) done in let f = c.requires.orderly.placed.few in omega (arith, l, length-drop (length es - 50) es, f)) in
     let nexts : next ms sv ≡ next (last_50 es) sv = ap (λ (l : List HistoryEntry). next l sv) done in
     let joined : c.does_join.result ≡ joins_last ms c.args.moment = c.does_join.ensures ∙ ap (λ (l : List HistoryEntry). joins_last l c.args.moment) c.deref.ensures.value in
     let is : joins_last ms c.args.moment ≡ true = sym joined ∙ c.if-does_join.true in
@@ -131,7 +103,6 @@ returns-then-does_join-clause-moments g c = λ told.
     let done : ms ≡ last_50 es = c.in_ok-catch_up.ensures.done in
     let twice : last_50 (last_50 es) ≡ last_50 es = last_twice es c.requires.orderly.placed.few in
     let same : last_50 ms ≡ last_50 es = ap (λ (l : List HistoryEntry). last_50 l) done ∙ twice in
-    let few : length ms ≤ 50 = (let l : length ms ≡ length (last_50 es) = ap (λ (l : List HistoryEntry). length l) done in let f = c.requires.orderly.placed.few in omega (arith, l, length-drop (length es - 50) es, f)) in
     let nexts : next ms sv ≡ next (last_50 es) sv = ap (λ (l : List HistoryEntry). next l sv) done in
     let joined : c.does_join.result ≡ joins_last ms c.args.moment = c.does_join.ensures ∙ ap (λ (l : List HistoryEntry). joins_last l c.args.moment) c.deref.ensures.value in
     let is : joins_last ms c.args.moment ≡ true = sym joined ∙ c.if-does_join.true in
@@ -144,12 +115,9 @@ returns-in_err-add_group-clause-left g c = λ want.
     let es : List HistoryEntry = s.entries.items in
     let mid = c.catch_up.new.self in
     let ms : List HistoryEntry = mid.entries.items in
-    let sv : Save = record { moment = c.args.moment; content = c.args.content.now } in
     let done : ms ≡ last_50 es = c.in_ok-catch_up.ensures.done in
     let twice : last_50 (last_50 es) ≡ last_50 es = last_twice es c.requires.orderly.placed.few in
     let same : last_50 ms ≡ last_50 es = ap (λ (l : List HistoryEntry). last_50 l) done ∙ twice in
-    let few : length ms ≤ 50 = (let l : length ms ≡ length (last_50 es) = ap (λ (l : List HistoryEntry). length l) done in let f = c.requires.orderly.placed.few in omega (arith, l, length-drop (length es - 50) es, f)) in
-    let nexts : next ms sv ≡ next (last_50 es) sv = ap (λ (l : List HistoryEntry). next l sv) done in
     ap (λ (l : List HistoryEntry). last_50 l) (c.in_err-add_group.ensures.left (search rules)) ∙ same
 
 pub returns-in_err-add_group-clause-moments : goal.returns-in_err-add_group-clause-moments
@@ -162,7 +130,6 @@ returns-in_err-add_group-clause-moments g c = λ told.
     let done : ms ≡ last_50 es = c.in_ok-catch_up.ensures.done in
     let twice : last_50 (last_50 es) ≡ last_50 es = last_twice es c.requires.orderly.placed.few in
     let same : last_50 ms ≡ last_50 es = ap (λ (l : List HistoryEntry). last_50 l) done ∙ twice in
-    let few : length ms ≤ 50 = (let l : length ms ≡ length (last_50 es) = ap (λ (l : List HistoryEntry). length l) done in let f = c.requires.orderly.placed.few in omega (arith, l, length-drop (length es - 50) es, f)) in
     let nexts : next ms sv ≡ next (last_50 es) sv = ap (λ (l : List HistoryEntry). next l sv) done in
     let joined : c.does_join.result ≡ joins_last ms c.args.moment = c.does_join.ensures ∙ ap (λ (l : List HistoryEntry). joins_last l c.args.moment) c.deref.ensures.value in
     let is : joins_last ms c.args.moment ≡ false = sym joined ∙ c.if-does_join.false in
@@ -175,12 +142,7 @@ returns-clause-joined g c =
     let es : List HistoryEntry = s.entries.items in
     let mid = c.catch_up.new.self in
     let ms : List HistoryEntry = mid.entries.items in
-    let sv : Save = record { moment = c.args.moment; content = c.args.content.now } in
     let done : ms ≡ last_50 es = c.in_ok-catch_up.ensures.done in
-    let twice : last_50 (last_50 es) ≡ last_50 es = last_twice es c.requires.orderly.placed.few in
-    let same : last_50 ms ≡ last_50 es = ap (λ (l : List HistoryEntry). last_50 l) done ∙ twice in
-    let few : length ms ≤ 50 = (let l : length ms ≡ length (last_50 es) = ap (λ (l : List HistoryEntry). length l) done in let f = c.requires.orderly.placed.few in omega (arith, l, length-drop (length es - 50) es, f)) in
-    let nexts : next ms sv ≡ next (last_50 es) sv = ap (λ (l : List HistoryEntry). next l sv) done in
     let joined : c.does_join.result ≡ joins_last ms c.args.moment = c.does_join.ensures ∙ ap (λ (l : List HistoryEntry). joins_last l c.args.moment) c.deref.ensures.value in
     let is : joins_last ms c.args.moment ≡ false = sym joined ∙ c.if-does_join.false in
     sym is ∙ ap (λ (l : List HistoryEntry). joins_last l c.args.moment) done
@@ -193,9 +155,6 @@ returns-clause-saved g c =
     let ms : List HistoryEntry = mid.entries.items in
     let sv : Save = record { moment = c.args.moment; content = c.args.content.now } in
     let done : ms ≡ last_50 es = c.in_ok-catch_up.ensures.done in
-    let twice : last_50 (last_50 es) ≡ last_50 es = last_twice es c.requires.orderly.placed.few in
-    let same : last_50 ms ≡ last_50 es = ap (λ (l : List HistoryEntry). last_50 l) done ∙ twice in
-    let few : length ms ≤ 50 = (let l : length ms ≡ length (last_50 es) = ap (λ (l : List HistoryEntry). length l) done in let f = c.requires.orderly.placed.few in omega (arith, l, length-drop (length es - 50) es, f)) in
     let nexts : next ms sv ≡ next (last_50 es) sv = ap (λ (l : List HistoryEntry). next l sv) done in
     let joined : c.does_join.result ≡ joins_last ms c.args.moment = c.does_join.ensures ∙ ap (λ (l : List HistoryEntry). joins_last l c.args.moment) c.deref.ensures.value in
     let is : joins_last ms c.args.moment ≡ false = sym joined ∙ c.if-does_join.false in
@@ -211,7 +170,6 @@ returns-clause-moments g c = λ told.
     let done : ms ≡ last_50 es = c.in_ok-catch_up.ensures.done in
     let twice : last_50 (last_50 es) ≡ last_50 es = last_twice es c.requires.orderly.placed.few in
     let same : last_50 ms ≡ last_50 es = ap (λ (l : List HistoryEntry). last_50 l) done ∙ twice in
-    let few : length ms ≤ 50 = (let l : length ms ≡ length (last_50 es) = ap (λ (l : List HistoryEntry). length l) done in let f = c.requires.orderly.placed.few in omega (arith, l, length-drop (length es - 50) es, f)) in
     let nexts : next ms sv ≡ next (last_50 es) sv = ap (λ (l : List HistoryEntry). next l sv) done in
     let joined : c.does_join.result ≡ joins_last ms c.args.moment = c.does_join.ensures ∙ ap (λ (l : List HistoryEntry). joins_last l c.args.moment) c.deref.ensures.value in
     let is : joins_last ms c.args.moment ≡ false = sym joined ∙ c.if-does_join.false in
@@ -220,3 +178,15 @@ returns-clause-moments g c = λ told.
     (first_then g.D.Disk.time g.D.Disk.past g.D.Disk.now g.met.D.Disk.present (last_50 es) (next (last_50 es) sv) (last_50 ms) s.disk mid.disk c.add_group.new.self.disk same (c.in_ok-catch_up.ensures.moments told)
     (subst (λ (l : List HistoryEntry). Moments g.D.Disk.time g.D.Disk.past (HaveEither (last_50 ms) l) mid.disk c.add_group.new.self.disk) (saved_behind ms sv is ∙ nexts) (c.in_ok-add_group.ensures.moments told)))
     (subst (λ (l : List HistoryEntry). Moments g.D.Disk.time g.D.Disk.past (HaveEntries l) c.add_group.new.self.disk c.catch_up-2.new.self.disk) kept_now (c.catch_up-2.ensures.moments told))
+
+pub returns-in_err-merge-clause-stamps : goal.returns-in_err-merge-clause-stamps
+returns-in_err-merge-clause-stamps g c = λ told own stamped. c.merge.ensures.stamps told own (c.catch_up.ensures.stamps told own stamped)
+
+pub returns-then-does_join-clause-stamps : goal.returns-then-does_join-clause-stamps
+returns-then-does_join-clause-stamps g c = λ told own stamped. c.merge.ensures.stamps told own (c.catch_up.ensures.stamps told own stamped)
+
+pub returns-in_err-add_group-clause-stamps : goal.returns-in_err-add_group-clause-stamps
+returns-in_err-add_group-clause-stamps g c = λ told own stamped. c.add_group.ensures.stamps told own (c.catch_up.ensures.stamps told own stamped)
+
+pub returns-clause-stamps : goal.returns-clause-stamps
+returns-clause-stamps g c = λ told own stamped. c.catch_up-2.ensures.stamps told own (c.add_group.ensures.stamps told own (c.catch_up.ensures.stamps told own stamped))
