@@ -3,7 +3,8 @@
 ghost use Rattle.std.specs.Prelude.{◌≡◌, ◌≤◌, ◌<◌, ◌+◌, ◌-◌, ◌^◌, ◌↔◌, ℕ, IsTrue, true, false, length, List};
 ghost use Rattle.hx_faults.specs.Faults.{Rose};
 ghost use Rattle.hx_events.specs.declared.backup.TheConstants.{CONTENT_MAX};
-ghost use Rattle.hx_history_laws.specs.Entries.{HaveEither, HaveEntries};
+ghost use Rattle.hx_history_laws.specs.Having.{HaveEither, HaveEntries};
+ghost use Rattle.hx_history_laws.specs.Histories.{AreHistories};
 ghost use Rattle.hx_history_laws.specs.Keeping.{AreKept, IsOrderly};
 ghost use Rattle.hx_history_laws.specs.Kept.{joins_last, last_50, next};
 ghost use Rattle.hx_history_laws.specs.PairRuns.{Moments};
@@ -87,7 +88,7 @@ impl<D: Disk> History<D> {
         ensures few { length self.now.entries ≤ 50 }
         ensures kept { IsTrue D.tells → HaveEntries self.now.entries (D.now self.now.disk) }
         ensures stamps { IsTrue D.tells → NoneAbove self.now.stamp (D.now self.now.disk) }
-        ensures own { IsTrue D.tells → AreOwn (D.past self.now.disk self.now.opened) → AreOwn (D.now self.now.disk) }
+        ensures histories { IsTrue D.tells → AreOwn (D.past self.now.disk self.now.opened) → AreHistories (D.now self.now.disk) }
     {
         let entries = self.parts.entries.as_slice();
         &entries[entries.len() - entries.len().min(50)..]
@@ -130,7 +131,7 @@ impl<D: Disk> History<D> {
 
         // Stamps and counts. What is left by a disk that failed shows no later stamp, either.
         ensures stamps_faulted { IsTrue D.tells → (back : D) → result ≡ Added.Faulted back → NoneAbove (self.stamp + 1) (D.now back) }
-        ensures own_faulted { IsTrue D.tells → (back : D) → result ≡ Added.Faulted back → AreOwn (D.past self.disk self.opened) → AreOwn (D.now back) }
+        ensures histories_faulted { IsTrue D.tells → (back : D) → result ≡ Added.Faulted back → AreOwn (D.past self.disk self.opened) → AreHistories (D.now back) }
         ensures later_kept { (h : HistoryState D) → result ≡ Added.Kept h → (h.stamp ≤ self.stamp + 1) × (h.opened ≡ self.opened) × (D.failures self.disk ≤ D.failures h.disk) }
         ensures later_merged { (h : HistoryState D) → result ≡ Added.Merged h → (h.stamp ≤ self.stamp + 1) × (h.opened ≡ self.opened) × (D.failures self.disk ≤ D.failures h.disk) }
         ensures later_refused { (h : HistoryState D) (why : Refusal) → result ≡ Added.Refused h why → (h.stamp ≤ self.stamp + 1) × (h.opened ≡ self.opened) × (D.failures self.disk ≤ D.failures h.disk) }

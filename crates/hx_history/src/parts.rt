@@ -5,7 +5,7 @@ ghost use Rattle.std.proofs.Common.{set};
 ghost use Rattle.hx_faults.specs.Faults.{Rose};
 ghost use Rattle.hx_events.specs.declared.backup.TheConstants.{CONTENT_MAX};
 ghost use Rattle.hx_history.specs.declared.halts.Halt.TheVariants.{Fault, NoMemory};
-ghost use Rattle.hx_history_laws.specs.Entries.{HaveEither, HaveEntries};
+ghost use Rattle.hx_history_laws.specs.Having.{HaveEither, HaveEntries};
 ghost use Rattle.hx_history_laws.specs.Keeping.{AreKept, IsOrderly};
 ghost use Rattle.hx_history_laws.specs.Kept.{joins_last, last_50, last_number, next, next_number};
 ghost use Rattle.hx_history_laws.specs.PairRuns.{Moments};

@@ -1,5 +1,5 @@
-use Rattle.std.proofs.Common.{rules, ◌≡◌, ℕ, List, refl}
-use Rattle.hx_history_laws.specs.Saves.{left_none_above, left_own, seen_still}
+use Rattle.std.proofs.Common.{rules, ◌≡◌, ◌<◌, ◌-◌, ◌^◌, ℕ, List, refl}
+use Rattle.hx_history_laws.specs.Saves.{left_none_above, left_histories, seen_still}
 use Rattle.hx_history_laws.specs.Stamps.{since_then}
 use Rattle.hx_history.proofs.history.History.add.Goals as goal
 
@@ -38,8 +38,10 @@ returns-in-Err-Fault-clause-stamps_faulted g c = λ told back is.
     let handed : c.into_disk.result ≡ back = cc in
     left_none_above g.D.Disk.time g.D.Disk.past g.D.Disk.now g.met.D.Disk.present p.entries.items p.vault c.save.new.self.vault c.self.inside.opened p.disk c.save.new.self.disk c.into_disk.result back c.args.self (c.self.invariant.2 told) (c.save.ensures.stamps told) c.self.view_is c.into_disk.ensures handed c.save.ensures.stamp
 
-pub returns-in-Err-Fault-clause-own_faulted : goal.returns-in-Err-Fault-clause-own_faulted
-returns-in-Err-Fault-clause-own_faulted g c = λ told back is.
+pub returns-in-Err-Fault-clause-histories_faulted : goal.returns-in-Err-Fault-clause-histories_faulted
+returns-in-Err-Fault-clause-histories_faulted g c = λ told back is.
     let p = c.self.inside.parts in
     let handed : c.into_disk.result ≡ back = cc in
-    left_own g.D.Disk.time g.D.Disk.past g.D.Disk.now g.met.D.Disk.present p.entries.items p.vault c.save.new.self.vault c.self.inside.opened p.disk c.save.new.self.disk c.into_disk.result back c.args.self (c.self.invariant.2 told) (c.save.ensures.stamps told) c.self.view_is c.into_disk.ensures handed
+    let unspent : p.vault.stamp < 2 ^ 64 - 1 = search rules in
+    left_histories g.D.Disk.time g.D.Disk.past g.D.Disk.now g.met.D.Disk.present p.entries.items p.vault c.save.new.self.vault c.self.inside.opened p.disk c.save.new.self.disk c.into_disk.result back c.args.self (c.self.invariant.2 told) (c.save.ensures.stamps told) c.self.view_is c.into_disk.ensures handed
+    _ _ unspent c.save.ensures.stamp (c.save.ensures.moments told)

@@ -1,5 +1,5 @@
 use Rattle.std.proofs.Common.{◌≡◌, ℕ, List, subst}
-use Rattle.hx_history_laws.specs.Saves.{seen_entries, seen_none_above, seen_own}
+use Rattle.hx_history_laws.specs.Saves.{seen_entries, seen_none_above, seen_histories}
 use Rattle.hx_history.proofs.history.History.entries.Goals as goal
 
 pub returns-clause-kept : goal.returns-clause-kept
@@ -12,7 +12,7 @@ returns-clause-stamps g c = λ told.
     let p = c.self.inside.parts in
     seen_none_above g.D.Disk.time g.D.Disk.past g.D.Disk.now g.met.D.Disk.present p.entries.items p.vault c.self.inside.opened p.disk c.args.self.now (c.self.invariant.2 told) c.self.view_is
 
-pub returns-clause-own : goal.returns-clause-own
-returns-clause-own g c = λ told.
+pub returns-clause-histories : goal.returns-clause-histories
+returns-clause-histories g c = λ told.
     let p = c.self.inside.parts in
-    seen_own g.D.Disk.time g.D.Disk.past g.D.Disk.now g.met.D.Disk.present p.entries.items p.vault c.self.inside.opened p.disk c.args.self.now (c.self.invariant.2 told) c.self.view_is
+    seen_histories g.D.Disk.time g.D.Disk.past g.D.Disk.now g.met.D.Disk.present p.entries.items p.places.items p.vault c.self.inside.opened p.disk c.args.self.now c.self.invariant.0 (c.self.invariant.1 told) (c.self.invariant.2 told) c.self.view_is

@@ -5,7 +5,8 @@ use Rattle.hx_opening_laws.specs.Findings.{found_count}
 use Rattle.hx_opening_laws.specs.Opening.{IsVaultOpened}
 use Rattle.hx_vault.specs.Vaults.{VaultState}
 use Rattle.hx_history_laws.specs.declared.entry.HistoryEntry.{HistoryEntry}
-use Rattle.hx_history_laws.specs.Entries.{AreEntries, HaveEntries}
+use Rattle.hx_history_laws.specs.Entries.{AreEntries}
+use Rattle.hx_history_laws.specs.Having.{HaveEntries}
 use Rattle.hx_history_laws.specs.Opening.{IsHistory, IsHistoryOf, opened_all, opened_orderly, opened_since, entries_after, entries_before, history_after, history_before, stamp_before}
 use Rattle.hx_history_laws.specs.States.{HistoryState}
 use Rattle.hx_history.proofs.history.History.open.Goals as goal

@@ -2,7 +2,8 @@ use Rattle.std.proofs.Common.{rules, ◌≡◌, ◌≢◌, ◌≤◌, ◌<◌, �
 use Rattle.hx_vault.specs.Vaults.{VaultState, pair_at}
 use Rattle.hx_vault.specs.declared.pair.PairUse.TheVariants.{Free, Taken}
 use Rattle.hx_history_laws.specs.declared.entry.HistoryEntry.{HistoryEntry}
-use Rattle.hx_history_laws.specs.Entries.{resource_at, taken_of, no_entry, entry_at, HaveEither}
+use Rattle.hx_history_laws.specs.Entries.{resource_at, taken_of, no_entry, entry_at}
+use Rattle.hx_history_laws.specs.Having.{HaveEither}
 use Rattle.hx_history_laws.specs.EventRuns.{either_still, entry_read, place_read, last_owns, last_moments, last_left, last_kept, last_orderly, last_orderly_left, fresh_unplaced, fresh_count, fresh_taken, fresh_stamp, fresh_owns, fresh_moments, fresh_kept, fresh_orderly, fresh_orderly_left, fresh_left}
 use Rattle.hx_history_laws.specs.Events.{free_is_there}
 use Rattle.hx_history_laws.specs.Keeping.{AreKept, IsOrderly}

@@ -2,7 +2,7 @@ use Rattle.std.proofs.Common.{rules, ◌≡◌, ◌≢◌, ◌≤◌, ◌<◌, �
 use Rattle.std.proofs.lemmas.List.{length-drop}
 use Rattle.hx_vault.specs.Vaults.{VaultState}
 use Rattle.hx_history_laws.specs.declared.entry.HistoryEntry.{HistoryEntry}
-use Rattle.hx_history_laws.specs.Entries.{HaveEither, HaveEntries}
+use Rattle.hx_history_laws.specs.Having.{HaveEither, HaveEntries}
 use Rattle.hx_history_laws.specs.Keeping.{AreKept, IsOrderly}
 use Rattle.hx_history_laws.specs.Kept.{Save, entry_of, joins_last, last_50, last_number, next, next_number}
 use Rattle.hx_history_laws.specs.PairRuns.{Moments}
