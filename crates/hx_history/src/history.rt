@@ -13,7 +13,7 @@ ghost use Rattle.hx_history_laws.specs.States.{HistoryState};
 ghost use Rattle.hx_history.specs.declared.history.Refusal.{Refusal};
 
 use crate::halts::Halt;
-use crate::parts::Parts;
+use crate::parts::{ENTRIES_KEPT, Parts};
 use hx_disk::Disk;
 use hx_events::CONTENT_MAX;
 use hx_history_laws::HistoryEntry;
@@ -91,7 +91,7 @@ impl<D: Disk> History<D> {
         ensures histories { IsTrue D.tells → AreOwn (D.past self.now.disk self.now.opened) → AreHistories (D.now self.now.disk) }
     {
         let entries = self.parts.entries.as_slice();
-        &entries[entries.len() - entries.len().min(50)..]
+        &entries[entries.len() - entries.len().min(ENTRIES_KEPT)..]
     }
 
     /// How many calls of the disk have failed.

@@ -18,6 +18,7 @@ ghost use Rattle.hx_opening_laws.specs.FirstPairs.{IsFirstPair};
 ghost use Rattle.hx_lives.specs.CrashSafe.{found_at};
 ghost use Rattle.hx_history_laws.specs.Spans.{IsOfAnother, IsSpan, IsSpanTo, Widens, widened};
 ghost use Rattle.hx_history_laws.specs.declared.entry.HistoryEntry.{HistoryEntry};
+ghost use Rattle.hx_history_laws.specs.Stamps.{AreOwn};
 ghost use Rattle.hx_history_laws.specs.States.{HistoryState};
 
 use crate::frames::resource_of;
@@ -49,6 +50,7 @@ impl<D: Disk> History<D> {
         ensures history { IsTrue D.tells → IfOk result (λ h. HasHistory (readings (D.now disk))) }
         ensures stamp { IsTrue D.tells → IfOk result (λ h. h.stamp ≡ greatest_stamp (readings (D.now disk))) }
         ensures opened { IfOk result (λ h. h.opened ≡ D.time h.disk) }
+        ensures own { IsTrue D.tells → AreOwn (D.now disk) → IfOk result (λ h. AreOwn (D.past h.disk h.opened)) }
         ensures entries { IsTrue D.tells → IfOk result (λ h. AreEntries (readings (D.now disk)) h.entries) }
         ensures kept { IsTrue D.tells → IfOk result (λ h. HaveEntries h.entries (D.now h.disk)) }
         ensures quiet { IfOk result (λ h. HandsBack D.tells D.time D.past D.failures disk h.disk) }
@@ -114,10 +116,7 @@ fn entry_of(backup: &Backup, stamp: u64) -> Option<(u64, u64)>
 {
     let number = number_in(backup.resource.as_slice())?;
     let base = backup.base?;
-    if number == 0
-        || number > stamp
-        || base.size != backup.content.as_slice().len() as u64
-    {
+    if number == 0 || number > stamp || base.size != backup.content.as_slice().len() as u64 {
         return None;
     }
     Some((number, base.mtime))
@@ -134,11 +133,7 @@ fn wider(span: Option<(u64, u64)>, number: u64) -> (u64, u64)
 }
 
 // The span with the number of what was found, if that is an entry.
-fn span_with(
-    span: Option<(u64, u64)>,
-    item: &PairFound,
-    stamp: u64,
-) -> Option<Option<(u64, u64)>>
+fn span_with(span: Option<(u64, u64)>, item: &PairFound, stamp: u64) -> Option<Option<(u64, u64)>>
     ensures some { IfSome result (λ wide. Widens item.now stamp span wide) }
     ensures none { result ≡ None → IsOfAnother item.now stamp }
 {

@@ -19,6 +19,9 @@ use hx_history_laws::HistoryEntry;
 use hx_vault::Vault;
 use std::alloc::{AllocError, Global};
 
+/// How many entries are kept.
+pub const ENTRIES_KEPT: usize = 50;
+
 /// A disk with its vault, and the entries that stand in it, in order, with the pair of each. The first of 51 is to be emptied.
 pub struct Parts<D> {
     pub alloc: Global,
@@ -185,7 +188,8 @@ impl<D: Disk> Parts<D> {
         ensures fault { IsErrOf result Halt.Fault → Rose (D.failures self.old.disk) (D.failures self.new.disk) }
         ensures later { D.failures self.old.disk ≤ D.failures self.new.disk }
     {
-        if self.entries.len() <= 50 {
+        let count = self.entries.len();
+        if count <= ENTRIES_KEPT {
             return Ok(());
         }
         self.empty_first()

@@ -1,12 +1,12 @@
 -- The blocks of a frame, put behind a closed gate one after the other.
-use Rattle.std.specs.Prelude.{◌≡◌, ◌≤◌, ◌<◌, ◌+◌, ◌^◌, ℕ, Bool, false, IsTrue, IsSome, List, [], ◌++◌, length, Option, Some, None, refl}
+use Rattle.std.specs.Prelude.{◌≡◌, ◌<◌, ◌+◌, ◌^◌, ℕ, Bool, false, IsTrue, IsSome, List, [], ◌++◌, length, Option, Some, None, refl}
 use Rattle.std.proofs.Common.{sym, ◌∙◌, ap, subst, arith}
 use Rattle.std.proofs.lemmas.List.{append_assoc, append-nil, length-append, nil_from_length}
 use Rattle.hx_disk.specs.File.{FileState}
 use Rattle.hx_rules.specs.Allowed.{allowed_of}
 use Rattle.hx_rules.specs.Backups.{Snapshot}
 use Rattle.hx_vault.specs.Vaults.{VaultState, pair_at, place_of, put_length}
-use Rattle.hx_history_laws.specs.Keeping.{MovesPair, Owns, moves_joined, moves_none, owns_fine}
+use Rattle.hx_history_laws.specs.Keeping.{MovesPair, moves_joined, moves_none, owns_fine}
 use Rattle.hx_history_laws.specs.PairRuns.{PairRun, run_joined, run_still}
 use Rattle.hx_history_laws.specs.PairStages.{IsPairFine}
 use Rattle.hx_history_laws.specs.Stages.{HasPut, put_owns}

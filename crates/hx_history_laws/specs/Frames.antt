@@ -1,6 +1,6 @@
 -- The bytes of an entry.
-use Rattle.std.specs.Prelude.{◌≡◌, ◌<◌, ◌≤◌, ◌+◌, ◌^◌, ◌&&◌, ℕ, suc, Bool, true, false, nat_le, List, [], ◌∷◌, ◌++◌, length, take, drop, codes, decimal, Some, Ok, refl, get_or}
-use Rattle.std.proofs.Common.{sym, ◌∙◌, ap, subst, arith, lit≤}
+use Rattle.std.specs.Prelude.{◌≡◌, ◌<◌, ◌≤◌, ◌+◌, ◌^◌, ◌&&◌, ℕ, suc, Bool, true, nat_le, List, [], ◌∷◌, ◌++◌, length, take, drop, codes, decimal, Ok, refl, get_or}
+use Rattle.std.proofs.Common.{sym, ◌∙◌, ap, arith, lit≤}
 use Rattle.std.specs.Char.{is_ascii_graphic}
 use Rattle.std.specs.List.{list_all}
 use Rattle.std.proofs.lemmas.Bool.Decides.{nat_tests}
@@ -57,11 +57,11 @@ pub first_frame : (cut stamp size : ℕ) (e : HistoryEntry) (line block : List �
 first_frame cut stamp size e line block small short few counts reads is =
     let long : length (line ++ e.content) ≡ length line + length e.content = length-append line e.content in
     let whole : block ++ drop cut e.content ≡ frame_bytes stamp (line ++ e.content) =
-        ap (λ (l : List ℕ). l ++ drop cut e.content) is
-        ∙ append_assoc (frame_head stamp size ++ line) (take cut e.content) (drop cut e.content)
-        ∙ ap (λ (l : List ℕ). (frame_head stamp size ++ line) ++ l) (take-append-drop cut e.content)
-        ∙ append_assoc (frame_head stamp size) line e.content
-        ∙ ap (λ n. frame_head stamp n ++ (line ++ e.content)) (counts ∙ sym long) in
+    ap (λ (l : List ℕ). l ++ drop cut e.content) is
+    ∙ append_assoc (frame_head stamp size ++ line) (take cut e.content) (drop cut e.content)
+    ∙ ap (λ (l : List ℕ). (frame_head stamp size ++ line) ++ l) (take-append-drop cut e.content)
+    ∙ append_assoc (frame_head stamp size) line e.content
+    ∙ ap (λ n. frame_head stamp n ++ (line ++ e.content)) (counts ∙ sym long) in
     record {
       frame = record { form = Two; stamp = stamp; body = line ++ e.content };
       whole = λ tail. ap (λ (l : List ℕ). frame_in (l ++ tail)) whole ∙ frame_reads stamp (line ++ e.content) tail small (omega (arith, long, short, few));

@@ -1,7 +1,5 @@
 -- What whatever a crash leaves has of a history: its entries, and nothing else.
-use Rattle.std.specs.Prelude.{◌≡◌, ◌⊎◌, ◌<◌, ◌≤◌, ℕ, List, length}
-use Rattle.std.proofs.Common.{subst, arith}
-use Rattle.std.proofs.lemmas.List.{length-drop}
+use Rattle.std.specs.Prelude.{◌⊎◌, ℕ, List}
 use Rattle.hx_disk.specs.Disk.{IsDiskImage}
 use Rattle.hx_disk.specs.File.{FileState}
 use Rattle.hx_restore.specs.Values.{pair_value}

@@ -1,18 +1,17 @@
 -- When what a crash leaves is a history again.
-use Rattle.std.specs.Prelude.{◌≡◌, ◌≢◌, ◌<◌, ◌≤◌, ◌+◌, ◌-◌, ◌*◌, ◌^◌, ℕ, Bool, true, false, bytes_eq, if◌then◌else◌, List, [], length, Option, Some, None, refl}
+use Rattle.std.specs.Prelude.{◌≡◌, ◌<◌, ◌≤◌, ◌+◌, ◌-◌, ◌*◌, ◌^◌, ℕ, Bool, true, false, bytes_eq, if◌then◌else◌, List, [], length, Option, Some, None, refl}
 use Rattle.std.proofs.Common.{sym, ◌∙◌, ap, subst, ⊎_elim, arith}
 use Rattle.std.proofs.lemmas.Bool.{cases_lt}
 use Rattle.std.proofs.lemmas.Slice.Eq.{bytes_eq-Decides}
 use Rattle.hx_disk.specs.Disk.{IsDiskImage}
 use Rattle.hx_disk.specs.File.{FileState}
 use Rattle.hx_events.specs.declared.backup.Backup.{Backup}
-use Rattle.hx_events.specs.declared.backup.PairFound.{PairFound}
 use Rattle.hx_events.specs.declared.backup.PairFound.TheVariants.{Empty, Found}
 use Rattle.hx_events.specs.declared.backup.Side.{Side}
 use Rattle.hx_events.specs.declared.backup.Side.TheVariants.{A, B}
 use Rattle.hx_lives.specs.CrashSafe.{found_at}
 use Rattle.hx_restore.specs.Laws.{no_twin}
-use Rattle.hx_restore.specs.Values.{backup_for, earlier_of, found_by, holds_for, pair_value, restored}
+use Rattle.hx_restore.specs.Values.{Silent, backup_for, earlier_of, found_by, holds_for, pair_value, restored, side_of, value_of}
 use Rattle.hx_restore.specs.declared.value.PairValue.{PairValue}
 use Rattle.hx_restore.specs.declared.value.PairValue.TheVariants.{Nothing, Broken, Held}
 use Rattle.hx_slots.specs.Files.{file_of}
@@ -22,16 +21,19 @@ use Rattle.hx_vault.specs.Scans.{no_greater_stamp}
 use Rattle.hx_pairs.specs.OnePair.{Reads}
 use Rattle.hx_pairs.specs.Opened.{held_counts}
 use Rattle.hx_pairs.specs.Words.{at_place}
-use Rattle.hx_history_laws.specs.declared.entry.HistoryEntry.{HistoryEntry}
-use Rattle.hx_history_laws.specs.Entries.{backup_of_entry, entry_at, resource_at}
+use Rattle.hx_history_laws.specs.Entries.{backup_of_entry, entry_at}
 use Rattle.hx_history_laws.specs.Having.{HoldsEntries}
-use Rattle.hx_history_laws.specs.Opening.{HasHistory, IsHistoryOf}
+use Rattle.hx_history_laws.specs.Opening.{HasHistory}
 use Rattle.hx_history_laws.specs.Placed.{ArePlaced, IsUnplaced, elsewhere, place_at}
-use Rattle.hx_history_laws.specs.Stamps.{AreNumbered, NoneAbove}
+use Rattle.hx_history_laws.specs.Stamps.{AreNumbered, NoneAbove, none_shown_above}
 
 -- Whatever a crash leaves of these files is a history, and its entries' numbers are at most the stamps beside them.
 abbrev pub AreHistories : (ℕ → FileState) → Type 0
 AreHistories files = (image : ℕ → List ℕ) → IsDiskImage files image → HasHistory image × AreNumbered image
+
+-- A vault in which nothing shows is a history, of no entry.
+abbrev pub EmptyVault : Type 0
+EmptyVault = (files : ℕ → FileState) → ((image : ℕ → List ℕ) → IsDiskImage files image → (p : ℕ) (side : Side) → p < 64 → shown_in (image (file_of p side)) ≡ None) → AreHistories files
 
 -- ---- proofs
 
@@ -95,9 +97,9 @@ module _ (image : ℕ → List ℕ) (holds : HoldsEntries image) (numbered : Are
       let p : ℕ = place_at holds.places i in
       let b : Backup = backup_of_entry (entry_at holds.entries i) in
       let alone : earlier_of (pair_value image) p (Held b h.0) ≡ None =
-          no_twin b.resource (pair_value image) p
-          (λ q less. no_holder b.resource (pair_value image q) (elsewhere holds.entries holds.places holds.most holds.placed image holds.held i lt q (let w = holds.placed.below i lt in omega (arith, less, w)) (λ same. omega (arith, same, less))))
-          (Held b h.0) ((bytes_eq-Decides b.resource b.resource).1 refl) in
+      no_twin b.resource (pair_value image) p
+      (λ q less. no_holder b.resource (pair_value image q) (elsewhere holds.entries holds.places holds.most holds.placed image holds.held i lt q (let w = holds.placed.below i lt in omega (arith, less, w)) (λ same. omega (arith, same, less))))
+      (Held b h.0) ((bytes_eq-Decides b.resource b.resource).1 refl) in
       (h.0, found_in image p (holds.placed.below i lt) ∙ ap (λ (v : PairValue). found_by v (earlier_of (pair_value image) p v)) h.1 ∙ ap (found_by (Held b h.0)) alone)
 
   found_others : (p : ℕ) → p < 64 → IsUnplaced p (length holds.entries) holds.places → found_at (restored image) p ≡ Empty
@@ -110,3 +112,38 @@ module _ (image : ℕ → List ℕ) (holds : HoldsEntries image) (numbered : Are
 pub are_histories : (files : ℕ → FileState) (most : ℕ) → most < 2 ^ 64 → NoneAbove most files → ((image : ℕ → List ℕ) → IsDiskImage files image → HoldsEntries image) → ((image : ℕ → List ℕ) → IsDiskImage files image → AreNumbered image) → AreHistories files
 are_histories files most small none holds numbered image is =
     (history_in image (holds image is) (numbered image is) (let n = none image is in omega (arith, n, small)), numbered image is)
+
+-- ---- an empty vault
+nothing_held : (image : ℕ → List ℕ) (p : ℕ) → shown_in (image (2 * p)) ≡ None → shown_in (image (2 * p + 1)) ≡ None → pair_value image p ≡ Nothing
+unfolding pair_value
+nothing_held image p a b = ap (λ (x : Option Frame). value_of (side_of x) (side_of (shown_in (image (2 * p + 1))))) a ∙ ap (λ (x : Option Frame). value_of Silent (side_of x)) b
+
+nothing_above : (image : ℕ → List ℕ) → ((p : ℕ) (side : Side) → p < 64 → shown_in (image (file_of p side)) ≡ None) → greatest_stamp image ≤ 0
+unfolding greatest_stamp
+nothing_above image silent = none_shown_above (λ p. image (2 * p)) (λ p. image (2 * p + 1)) 64 0
+    (λ p lt. subst (λ (x : Option Frame). stamp_of x ≤ 0) (sym (silent p A lt)) (omega arith))
+    (λ p lt. subst (λ (x : Option Frame). stamp_of x ≤ 0) (sym (silent p B lt)) (omega arith))
+
+pub empty_vault : EmptyVault
+empty_vault files silent = are_histories files 0 (omega arith) (λ image is. nothing_above image (silent image is))
+    (λ image is. record {
+      entries = [];
+      places = [];
+      most = 0;
+      placed = record {
+        first = 1;
+        numbers = λ i lt. absurd (omega (arith, lt));
+        some = omega arith;
+        greatest = omega arith;
+        small = omega arith;
+        few = omega arith;
+        count = refl;
+        below = λ i lt. absurd (omega (arith, lt));
+        apart = λ i j lt_i lt_j same. absurd (omega (arith, lt_i));
+      };
+      held = record {
+        each = λ i lt. absurd (omega (arith, lt));
+        others = λ p lt none. nothing_held image p (silent image is p A lt) (silent image is p B lt);
+      };
+    })
+    (λ image is p side frame lt shows. absurd (let odd : None ≡ Some frame = sym (silent image is p side lt) ∙ shows in cc))

@@ -1,6 +1,6 @@
 -- An image of the disk has one list of entries.
-use Rattle.std.specs.Prelude.{◌≡◌, ◌<◌, ◌≤◌, ◌+◌, ◌⊎◌, ℕ, zero, suc, List, length}
-use Rattle.std.proofs.Common.{sym, ◌∙◌, ap, subst, inl, inr, ⊎_elim, arith}
+use Rattle.std.specs.Prelude.{◌≡◌, ◌<◌, ◌≤◌, ◌+◌, ℕ, zero, suc, List, length}
+use Rattle.std.proofs.Common.{sym, ◌∙◌, ap, ⊎_elim, arith}
 use Rattle.std.proofs.lemmas.Bool.{cases_lt}
 use Rattle.std.proofs.lemmas.List.{ext_get_or}
 use Rattle.hx_history_laws.specs.declared.entry.HistoryEntry.{HistoryEntry}
@@ -17,9 +17,9 @@ behind : (image : ℕ → List ℕ) (es : List HistoryEntry) → AreEntries imag
 behind image es a i k in_i in_k less = ⊎_elim
     (λ lt. lt)
     (λ le. absurd (⊎_elim
-        (λ below. let b = below in let up = a.ascend k i b in_i in omega (arith, up, less))
-        (λ above. let p = le in let q = above in let same : (entry_at es i).number ≡ (entry_at es k).number = ap (λ n. (entry_at es n).number) (let z : i ≡ k = omega (arith, p, q) in z) in omega (arith, same, less))
-        (cases_lt k i)))
+    (λ below. let b = below in let up = a.ascend k i b in_i in omega (arith, up, less))
+    (λ above. let p = le in let q = above in let same : (entry_at es i).number ≡ (entry_at es k).number = ap (λ n. (entry_at es n).number) (let z : i ≡ k = omega (arith, p, q) in z) in omega (arith, same, less))
+    (cases_lt k i)))
     (cases_lt i k)
 
 -- an entry that stands so far behind

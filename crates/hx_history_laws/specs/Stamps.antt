@@ -1,6 +1,6 @@
 -- The stamps that slot files may show: none is above the greatest that was given out. In a history that began with an empty vault each
 -- entry's number is at most the stamp beside it, too.
-use Rattle.std.specs.Prelude.{◌≡◌, ◌≢◌, ◌<◌, ◌≤◌, ◌+◌, ◌*◌, ◌⊎◌, ℕ, zero, suc, max, Bool, true, false, IsTrue, List, [], ◌++◌, length, Option, Some, None, Result, Ok, Err, ⊤, ◌^◌, refl}
+use Rattle.std.specs.Prelude.{◌≡◌, ◌≢◌, ◌<◌, ◌≤◌, ◌+◌, ◌*◌, ◌⊎◌, ℕ, zero, suc, Bool, true, false, List, [], length, Option, Some, None, Result, Ok, Err, ⊤, ◌^◌, refl}
 use Rattle.std.proofs.Common.{sym, ◌∙◌, ap, subst, inl, inr, ⊎_elim, arith}
 use Rattle.std.proofs.Math.Path.{fun_ext}
 use Rattle.std.proofs.lemmas.Bool.Decides.{eqb_tells}
@@ -16,7 +16,7 @@ use Rattle.hx_slots.specs.Frames.{Frame, shown_in}
 use Rattle.hx_slots.specs.Raws.{greatest_shown, greatest_stamp, stamp_of}
 use Rattle.hx_vault.specs.declared.pair.Pair.{Pair}
 use Rattle.hx_vault.specs.declared.pair.PairUse.{PairUse}
-use Rattle.hx_vault.specs.Sides.{SideState, Shut, Still, CanShow, IsFrame, IsSide, WhereKnown, can_show, is_closed, loosened}
+use Rattle.hx_vault.specs.Sides.{SideState, Shut, Still, CanShow, IsSide, WhereKnown, can_show, is_closed, loosened}
 use Rattle.hx_vault.specs.Vaults.{VaultState, no_pair, other_side, is_shut, pair_at, rehomed, with_pair, with_put, with_shut, with_use}
 use Rattle.hx_pairs.specs.Moves.{other_file, other_pair}
 use Rattle.hx_pairs.specs.OnePair.{Reads, side_stamp}
@@ -73,7 +73,7 @@ shown_within (Still frame true) most shown within is = no_more frame true most s
 shown_within (Still frame false) most shown within (inl none) = subst (λ (x : Option Frame). stamp_of x ≤ most) (sym none) (omega arith)
 shown_within (Still frame false) most shown within (inr is) = no_more frame false most shown within is
 
-none_shown_above : (a b : ℕ → List ℕ) (n most : ℕ) → ((p : ℕ) → p < n → stamp_of (shown_in (a p)) ≤ most) → ((p : ℕ) → p < n → stamp_of (shown_in (b p)) ≤ most) → greatest_shown a b n ≤ most
+pub none_shown_above : (a b : ℕ → List ℕ) (n most : ℕ) → ((p : ℕ) → p < n → stamp_of (shown_in (a p)) ≤ most) → ((p : ℕ) → p < n → stamp_of (shown_in (b p)) ≤ most) → greatest_shown a b n ≤ most
 none_shown_above a b zero most in_a in_b = omega arith
 none_shown_above a b (suc n) most in_a in_b =
     let ih = none_shown_above a b n most (λ p lt. in_a p (omega (arith, lt))) (λ p lt. in_b p (omega (arith, lt))) in
@@ -183,20 +183,20 @@ module _ {D : Type 0} (time : D → ℕ) (past : D → ℕ → ℕ → FileState
         → (state : SideState) → IsSide state (now new (file_of p side)) → is_closed state ≡ is_shut pair side → side_stamp state ≤ more → (own ≡ true → IsNumberedSide state) → AreStamped own w (now new)
     side_stamped Q through other state is_state closed within numbered q t in_q = ⊎_elim
         (λ same. subst (λ n. IsStamped own w w.stamp n t (now new)) (sym same.1) (⊎_elim
-            (λ here. subst (λ (s : Side). IsStamped own w w.stamp p s (now new)) (sym here) (record {
-              state = state;
-              is = is_state;
-              known = closed ∙ sym (ap (λ (x : Pair). is_shut x side) there);
-              within = omega (arith, within, counter);
-              numbered = numbered;
-            }))
-            (λ there_too. subst (λ (s : Side). IsStamped own w w.stamp p s (now new)) (sym there_too)
-            (still_stamped own v w (now old) (now new) w.stamp p (other_side side) (stamped p (other_side side) below) (omega (arith, rises, counter))
-            (ap (λ (x : Pair). is_shut x (other_side side)) there ∙ other)
-            (others (file_of p (other_side side)) (λ e. other_file p side (sym e)))))
-            (same_or_other side t)))
+        (λ here. subst (λ (s : Side). IsStamped own w w.stamp p s (now new)) (sym here) (record {
+          state = state;
+          is = is_state;
+          known = closed ∙ sym (ap (λ (x : Pair). is_shut x side) there);
+          within = omega (arith, within, counter);
+          numbered = numbered;
+        }))
+        (λ there_too. subst (λ (s : Side). IsStamped own w w.stamp p s (now new)) (sym there_too)
+        (still_stamped own v w (now old) (now new) w.stamp p (other_side side) (stamped p (other_side side) below) (omega (arith, rises, counter))
+        (ap (λ (x : Pair). is_shut x (other_side side)) there ∙ other)
+        (others (file_of p (other_side side)) (λ e. other_file p side (sym e)))))
+        (same_or_other side t)))
         (λ far. still_stamped own v w (now old) (now new) w.stamp q t (stamped q t in_q) (omega (arith, rises, counter))
-            (ap (λ (x : Pair). is_shut x t) (elsewhere q far.1)) (others (file_of q t) (other_pair q p t side far.1)))
+        (ap (λ (x : Pair). is_shut x t) (elsewhere q far.1)) (others (file_of q t) (other_pair q p t side far.1)))
         (eqb_tells q p)
       where
         others : (f : ℕ) → f ≢ file_of p side → now new f ≡ now old f
@@ -251,13 +251,13 @@ module _ {D : Type 0} (time : D → ℕ) (past : D → ℕ → ℕ → FileState
 pub used_stamped : (own : Bool) (v w : VaultState) (p : ℕ) (used : PairUse) (files : ℕ → FileState) → length v.pairs ≡ 64 → p < 64 → w ≡ with_pair v p (with_use (pair_at v p) used) → AreStamped own v files → AreStamped own w files
 used_stamped own v w p used files count below is stamped q t in_q =
     still_stamped own v w files files w.stamp q t (stamped q t in_q) (let c = ap (λ (k : VaultState). k.stamp) is in omega (arith, c)) (⊎_elim
-        (λ same. ap (λ n. is_shut (pair_at w n) t) same.1
-        ∙ ap (λ (k : VaultState). is_shut (pair_at k p) t) is
-        ∙ ap (λ (x : Pair). is_shut x t) (get_or-set_same v.pairs p (with_use (pair_at v p) used) no_pair (omega (arith, count, below)))
-        ∙ use_marks (pair_at v p) used t
-        ∙ ap (λ n. is_shut (pair_at v n) t) (sym same.1))
-        (λ far. ap (λ (k : VaultState). is_shut (pair_at k q) t) is ∙ ap (λ (x : Pair). is_shut x t) (get_or-set_other v.pairs p q (with_use (pair_at v p) used) no_pair far.1))
-        (eqb_tells q p)) refl
+    (λ same. ap (λ n. is_shut (pair_at w n) t) same.1
+    ∙ ap (λ (k : VaultState). is_shut (pair_at k p) t) is
+    ∙ ap (λ (x : Pair). is_shut x t) (get_or-set_same v.pairs p (with_use (pair_at v p) used) no_pair (omega (arith, count, below)))
+    ∙ use_marks (pair_at v p) used t
+    ∙ ap (λ n. is_shut (pair_at v n) t) (sym same.1))
+    (λ far. ap (λ (k : VaultState). is_shut (pair_at k q) t) is ∙ ap (λ (x : Pair). is_shut x t) (get_or-set_other v.pairs p q (with_use (pair_at v p) used) no_pair far.1))
+    (eqb_tells q p)) refl
 
 -- An entry's frame is one where its number is at most its stamp.
 pub frame_numbered : (frame : Frame) (e : HistoryEntry) → e.number < 2 ^ 64 → e.number ≤ frame.stamp → Reads frame (backup_of_entry e) → IsNumbered frame

@@ -1,4 +1,4 @@
-use Rattle.std.proofs.Common.{rules, ◌≡◌, ◌+◌, ◌++◌, ℕ, List, [], ◌∷◌, Some, None, false, length, drop, sym, ◌∙◌, ap, subst, arith}
+use Rattle.std.proofs.Common.{rules, ◌≡◌, ◌+◌, ◌++◌, ℕ, List, [], ◌∷◌, Some, length, drop, sym, ◌∙◌, ap, subst, arith}
 use Rattle.std.proofs.lemmas.List.{length-drop}
 use Rattle.hx_vault.specs.Sides.{IsFrame}
 use Rattle.hx_vault.specs.Vaults.{pair_at, place_of, put_length}
@@ -96,7 +96,7 @@ returns-clause-run g c = λ told was owns.
     let f = c.in_ok-first.ensures.frame in
     let rest : c.behind.result.now ≡ drop 4096 c.args.content.now = search rules in
     let whole : c.deref.result.now ++ c.behind.result.now ≡ c.in_ok-first.first.items ++ drop 4096 c.args.content.now =
-        ap (λ (l : List ℕ). l ++ c.behind.result.now) c.deref.ensures.value ∙ ap (λ (l : List ℕ). c.in_ok-first.first.items ++ l) {y = drop 4096 c.args.content.now} rest in
+    ap (λ (l : List ℕ). l ++ c.behind.result.now) c.deref.ensures.value ∙ ap (λ (l : List ℕ). c.in_ok-first.first.items ++ l) {y = drop 4096 c.args.content.now} rest in
     run_joined g.D.Disk.time g.D.Disk.past g.D.Disk.now g.met.D.Disk.present c.args.pair (IsPairFine r (was ∷ Some (taken_of e) ∷ []) c.args.pair) c.args.disk.now c.put_blocks.new.disk c.open_away.new.disk
     (run_sooner g.D.Disk.time g.D.Disk.past g.D.Disk.now g.met.D.Disk.present r was (taken_of e) c.args.pair c.args.disk.now c.put_blocks.new.disk
     (run_joined g.D.Disk.time g.D.Disk.past g.D.Disk.now g.met.D.Disk.present c.args.pair _ c.args.disk.now c.put_block.new.disk c.put_blocks.new.disk
@@ -114,7 +114,7 @@ returns-clause-done g c = λ told was owns.
     let f = c.in_ok-first.ensures.frame in
     let rest : c.behind.result.now ≡ drop 4096 c.args.content.now = search rules in
     let whole : c.deref.result.now ++ c.behind.result.now ≡ c.in_ok-first.first.items ++ drop 4096 c.args.content.now =
-        ap (λ (l : List ℕ). l ++ c.behind.result.now) c.deref.ensures.value ∙ ap (λ (l : List ℕ). c.in_ok-first.first.items ++ l) {y = drop 4096 c.args.content.now} rest in
+    ap (λ (l : List ℕ). l ++ c.behind.result.now) c.deref.ensures.value ∙ ap (λ (l : List ℕ). c.in_ok-first.first.items ++ l) {y = drop 4096 c.args.content.now} rest in
     c.open_away.ensures.done told r was _ f.frame (taken_of e) put (subst (λ (l : List ℕ). IsFrame l f.frame) (sym whole) f.whole) f.reads
     (f.stamped ∙ ap (λ n. n + 1) c.stamp.ensures ∙ sym c.in_ok-close_away.ensures.stamped ∙ sym c.put_block.ensures.stamp ∙ sym c.put_blocks.ensures.stamp)
 
@@ -140,7 +140,7 @@ returns-clause-stamps g c = λ told own stamped.
     let f = c.in_ok-first.ensures.frame in
     let rest : c.behind.result.now ≡ drop 4096 c.args.content.now = search rules in
     let whole : c.deref.result.now ++ c.behind.result.now ≡ c.in_ok-first.first.items ++ drop 4096 c.args.content.now =
-        ap (λ (l : List ℕ). l ++ c.behind.result.now) c.deref.ensures.value ∙ ap (λ (l : List ℕ). c.in_ok-first.first.items ++ l) {y = drop 4096 c.args.content.now} rest in
+    ap (λ (l : List ℕ). l ++ c.behind.result.now) c.deref.ensures.value ∙ ap (λ (l : List ℕ). c.in_ok-first.first.items ++ l) {y = drop 4096 c.args.content.now} rest in
     let given : f.frame.stamp ≡ c.args.vault.now.stamp + 1 = f.stamped ∙ ap (λ n. n + 1) c.stamp.ensures in
     let counter : f.frame.stamp ≡ c.put_blocks.new.vault.stamp = given ∙ sym c.in_ok-close_away.ensures.stamped ∙ sym c.put_block.ensures.stamp ∙ sym c.put_blocks.ensures.stamp in
     c.open_away.ensures.stamps told own r h.0 _ f.frame put (subst (λ (l : List ℕ). IsFrame l f.frame) (sym whole) f.whole) (omega (arith, counter))

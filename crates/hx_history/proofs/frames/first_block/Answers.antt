@@ -16,8 +16,8 @@ returns-clause-frame c =
     let more : c.extend_from_slice.new.self.items ≡ c.put_frame_head.new.out.items ++ line = search rules in
     let last : c.extend_from_slice-2.new.self.items ≡ c.extend_from_slice.new.self.items ++ take 4096 e.content = search rules in
     let reads : record_in Two (line ++ e.content) ≡ Ok (backup_of_entry e) =
-        c.in_ok-line.ensures.read_back Two e.content c.requires
-        ∙ ap (λ (l : List ℕ). Ok (record { resource = l; base = Some (record { mtime = e.moment; size = length e.content }); content = e.content })) (c.deref.ensures.value ∙ c.in_ok-resource.ensures.text) in
+    c.in_ok-line.ensures.read_back Two e.content c.requires
+    ∙ ap (λ (l : List ℕ). Ok (record { resource = l; base = Some (record { mtime = e.moment; size = length e.content }); content = e.content })) (c.deref.ensures.value ∙ c.in_ok-resource.ensures.text) in
     first_frame 4096 c.args.stamp size e line c.extend_from_slice-2.new.self.items (omega arith) c.in_ok-line.ensures.short c.requires refl reads
     (last ∙ ap (λ (l : List ℕ). l ++ take 4096 e.content) (more ∙ ap (λ (l : List ℕ). l ++ line) head))
 

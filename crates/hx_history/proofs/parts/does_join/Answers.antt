@@ -1,4 +1,4 @@
-use Rattle.std.proofs.Common.{rules, ◌≡◌, ◌<◌, ◌+◌, ℕ, sym, ◌∙◌, subst, arith}
+use Rattle.std.proofs.Common.{sym, ◌∙◌}
 use Rattle.hx_history_laws.specs.Kept.{got_joins, joins_then, joins_else}
 use Rattle.hx_history.proofs.parts.does_join.Goals as goal
 

@@ -1,5 +1,5 @@
-use Rattle.std.proofs.Common.{rules, ◌≡◌, ◌<◌, ◌+◌, ℕ, sym, ◌∙◌, subst, arith}
-use Rattle.hx_history_laws.specs.Kept.{got_next, next_number}
+use Rattle.std.proofs.Common.{sym, arith}
+use Rattle.hx_history_laws.specs.Kept.{got_next}
 use Rattle.hx_history.proofs.parts.number_behind.Goals as goal
 
 pub overflow_add-result : goal.overflow_add-result

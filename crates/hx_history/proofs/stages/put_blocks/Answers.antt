@@ -1,4 +1,4 @@
-use Rattle.std.proofs.Common.{rules, ◌≡◌, ℕ, List, sym, ◌∙◌}
+use Rattle.std.proofs.Common.{rules, ◌∙◌}
 use Rattle.std.specs.Slice.Iter.{chunks_rest}
 use Rattle.hx_history_laws.specs.Blocks.{puts_none, puts_more, puts_all, next_begun, next_small, next_side, front_run}
 use Rattle.hx_history_laws.specs.Stages.{put_owns}

@@ -1,4 +1,4 @@
-use Rattle.std.proofs.Common.{rules, ◌≡◌, ◌<◌, ◌-◌, ◌^◌, ℕ, List, refl}
+use Rattle.std.proofs.Common.{rules, ◌≡◌, ◌<◌, ◌-◌, ◌^◌, refl}
 use Rattle.hx_history_laws.specs.Saves.{left_none_above, left_histories, seen_still}
 use Rattle.hx_history_laws.specs.Stamps.{since_then}
 use Rattle.hx_history.proofs.history.History.add.Goals as goal
@@ -27,10 +27,10 @@ invariant_of-result-in-Ok-false g c = (c.in-Ok-false.ensures.orderly, c.in-Ok-fa
 
 pub invariant_of-result-in-Err-NoMemory : goal.invariant_of-result-in-Err-NoMemory
 invariant_of-result-in-Err-NoMemory g c = (
-      c.in-Err-NoMemory.ensures.orderly_left (search rules),
-      λ told. c.in-Err-NoMemory.ensures.kept_left told (search rules),
-      λ told. since_then g.D.Disk.time g.D.Disk.past g.D.Disk.now c.self.inside.opened _ c.self.inside.parts.vault c.save.new.self.vault c.self.inside.parts.disk c.save.new.self.disk (c.self.invariant.2 told) (c.save.ensures.moments told) (c.save.ensures.stamps told),
-    )
+  c.in-Err-NoMemory.ensures.orderly_left (search rules),
+  λ told. c.in-Err-NoMemory.ensures.kept_left told (search rules),
+  λ told. since_then g.D.Disk.time g.D.Disk.past g.D.Disk.now c.self.inside.opened _ c.self.inside.parts.vault c.save.new.self.vault c.self.inside.parts.disk c.save.new.self.disk (c.self.invariant.2 told) (c.save.ensures.moments told) (c.save.ensures.stamps told),
+)
 
 pub returns-in-Err-Fault-clause-stamps_faulted : goal.returns-in-Err-Fault-clause-stamps_faulted
 returns-in-Err-Fault-clause-stamps_faulted g c = λ told back is.
@@ -45,3 +45,6 @@ returns-in-Err-Fault-clause-histories_faulted g c = λ told back is.
     let unspent : p.vault.stamp < 2 ^ 64 - 1 = search rules in
     left_histories g.D.Disk.time g.D.Disk.past g.D.Disk.now g.met.D.Disk.present p.entries.items p.vault c.save.new.self.vault c.self.inside.opened p.disk c.save.new.self.disk c.into_disk.result back c.args.self (c.self.invariant.2 told) (c.save.ensures.stamps told) c.self.view_is c.into_disk.ensures handed
     _ _ unspent c.save.ensures.stamp (c.save.ensures.moments told)
+
+pub returns-in-Err-Fault-clause-refused : goal.returns-in-Err-Fault-clause-refused
+returns-in-Err-Fault-clause-refused g c = λ h why is. absurd cc

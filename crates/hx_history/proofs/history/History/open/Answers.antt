@@ -1,4 +1,4 @@
-use Rattle.std.proofs.Common.{rules, ◌≡◌, ◌<◌, ◌≤◌, ◌+◌, ℕ, List, Some, None, length, sym, ◌∙◌, ap, subst, arith, refl}
+use Rattle.std.proofs.Common.{rules, ℕ, List, length, sym, ◌∙◌, ap, subst}
 use Rattle.hx_events.specs.declared.backup.PairFound.{PairFound}
 use Rattle.hx_lives.specs.Holds.{readings}
 use Rattle.hx_opening_laws.specs.Findings.{found_count}
@@ -7,7 +7,8 @@ use Rattle.hx_vault.specs.Vaults.{VaultState}
 use Rattle.hx_history_laws.specs.declared.entry.HistoryEntry.{HistoryEntry}
 use Rattle.hx_history_laws.specs.Entries.{AreEntries}
 use Rattle.hx_history_laws.specs.Having.{HaveEntries}
-use Rattle.hx_history_laws.specs.Opening.{IsHistory, IsHistoryOf, opened_all, opened_orderly, opened_since, entries_after, entries_before, history_after, history_before, stamp_before}
+use Rattle.hx_history_laws.specs.Opening.{IsHistory, IsHistoryOf, opened_all, opened_orderly, opened_own, opened_since, entries_after, entries_before, history_after, history_before, stamp_before}
+use Rattle.hx_history_laws.specs.Stamps.{AreOwn}
 use Rattle.hx_history_laws.specs.States.{HistoryState}
 use Rattle.hx_history.proofs.history.History.open.Goals as goal
 
@@ -64,6 +65,14 @@ returns-in-Ok-Some-clause-stamp g c = λ told.
     let found : List PairFound = c.in-Ok.opened.1.items in
     let opened : IsVaultOpened g.D.Disk.tells g.D.Disk.now v found c.open_vault.new.disk = c.in-Ok.ensures.opened in
     ap (λ (h : HistoryState _). h.stamp) c.of.ensures ∙ stamp_before g.D.Disk.tells g.D.Disk.time g.D.Disk.past g.D.Disk.now g.D.Disk.failures g.met.D.Disk.present g.met.D.Disk.sound v found c.args.disk c.open_vault.new.disk c.open_vault.ensures.quiet opened told
+
+pub returns-in-Ok-Some-clause-own : goal.returns-in-Ok-Some-clause-own
+returns-in-Ok-Some-clause-own g c = λ told own.
+    let v : VaultState = c.in-Ok.opened.0 in
+    let found : List PairFound = c.in-Ok.opened.1.items in
+    let opened : IsVaultOpened g.D.Disk.tells g.D.Disk.now v found c.open_vault.new.disk = c.in-Ok.ensures.opened in
+    subst (λ (h : HistoryState _). AreOwn (g.D.Disk.past h.disk h.opened)) (sym c.of.ensures)
+    (opened_own g.D.Disk.tells g.D.Disk.time g.D.Disk.past g.D.Disk.now g.D.Disk.failures g.met.D.Disk.present g.met.D.Disk.sound v found c.args.disk c.open_vault.new.disk c.moment-opened.result c.moment-opened.ensures c.open_vault.ensures.quiet opened told own)
 
 pub returns-in-Ok-Some-clause-entries : goal.returns-in-Ok-Some-clause-entries
 returns-in-Ok-Some-clause-entries g c = λ told.

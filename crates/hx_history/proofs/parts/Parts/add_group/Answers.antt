@@ -1,16 +1,15 @@
-use Rattle.std.proofs.Common.{rules, ◌≡◌, ◌≢◌, ◌≤◌, ◌<◌, ◌+◌, ◌-◌, ◌++◌, ℕ, List, Bool, Option, Some, None, true, false, [], ◌∷◌, length, drop, sym, ◌∙◌, ap, subst, arith, refl, inl, inr, set}
+use Rattle.std.proofs.Common.{rules, ◌≡◌, ◌<◌, ◌++◌, ℕ, List, None, [], ◌∷◌, length, sym, ◌∙◌, ap, subst, arith}
 use Rattle.hx_vault.specs.Vaults.{VaultState, pair_at}
 use Rattle.hx_vault.specs.declared.pair.PairUse.TheVariants.{Free, Taken}
 use Rattle.hx_history_laws.specs.declared.entry.HistoryEntry.{HistoryEntry}
-use Rattle.hx_history_laws.specs.Entries.{resource_at, taken_of, no_entry, entry_at}
+use Rattle.hx_history_laws.specs.Entries.{resource_at}
 use Rattle.hx_history_laws.specs.Having.{HaveEither}
-use Rattle.hx_history_laws.specs.EventRuns.{either_still, next_fits, fresh_unplaced, fresh_count, fresh_taken, fresh_stamp, fresh_owns, fresh_moments, fresh_kept, fresh_orderly, fresh_orderly_left, fresh_left}
+use Rattle.hx_history_laws.specs.EventRuns.{either_still, next_fits, fresh_owns, fresh_moments, fresh_kept, fresh_orderly, fresh_orderly_left, fresh_left}
 use Rattle.hx_history_laws.specs.Events.{free_is_there}
 use Rattle.hx_history_laws.specs.Keeping.{AreKept, IsOrderly}
-use Rattle.hx_history_laws.specs.Kept.{last_50, last_number, number_at_last, next_number, next_at_last}
+use Rattle.hx_history_laws.specs.Kept.{last_50, next_number}
 use Rattle.hx_history_laws.specs.PairRuns.{Moments}
 use Rattle.hx_history_laws.specs.Stages.{owns_quiet, quiet_files}
-use Rattle.hx_history_laws.specs.Placed.{place_at}
 use Rattle.std.proofs.lemmas.List.{length-set}
 use Rattle.hx_history_laws.specs.EventRuns.{fresh_within}
 use Rattle.hx_history_laws.specs.Stamps.{used_stamped}

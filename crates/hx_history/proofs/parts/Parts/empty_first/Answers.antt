@@ -1,5 +1,4 @@
-use Rattle.std.proofs.Common.{rules, ◌≡◌, ◌≢◌, ◌≤◌, ◌<◌, ◌+◌, ℕ, List, Bool, Some, None, [], ◌∷◌, length, drop, sym, ◌∙◌, ap, subst, arith, refl, inl, inr}
-use Rattle.hx_vault.specs.Vaults.{VaultState}
+use Rattle.std.proofs.Common.{◌≡◌, ℕ, List, drop, sym, subst, arith}
 use Rattle.hx_history_laws.specs.declared.entry.HistoryEntry.{HistoryEntry}
 use Rattle.hx_history_laws.specs.Entries.{resource_at, taken_of, entry_at}
 use Rattle.hx_history_laws.specs.EventRuns.{first_owns, first_moments, first_left, first_gone, first_orderly, first_orderly_left, place_read}

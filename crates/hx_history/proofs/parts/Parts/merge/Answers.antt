@@ -1,13 +1,10 @@
-use Rattle.std.proofs.Common.{rules, ◌≡◌, ◌≢◌, ◌≤◌, ◌<◌, ◌+◌, ◌-◌, ◌++◌, ℕ, List, Bool, Option, Some, None, true, false, [], ◌∷◌, slice_index_or, length, drop, sym, ◌∙◌, ap, subst, arith, refl, inl, inr, set}
-use Rattle.hx_vault.specs.Vaults.{VaultState, pair_at}
-use Rattle.hx_vault.specs.declared.pair.PairUse.TheVariants.{Free, Taken}
+use Rattle.std.proofs.Common.{rules, ◌≡◌, ◌-◌, ℕ, List, Some, slice_index_or, length, sym, ◌∙◌, ap, subst, arith, set}
 use Rattle.hx_history_laws.specs.declared.entry.HistoryEntry.{HistoryEntry}
-use Rattle.hx_history_laws.specs.Entries.{resource_at, taken_of, no_entry, entry_at}
+use Rattle.hx_history_laws.specs.Entries.{taken_of, no_entry, entry_at}
 use Rattle.hx_history_laws.specs.Having.{HaveEither}
-use Rattle.hx_history_laws.specs.EventRuns.{either_still, entry_read, place_read, last_owns, last_moments, last_left, last_kept, last_orderly, last_orderly_left, fresh_unplaced, fresh_count, fresh_taken, fresh_stamp, fresh_owns, fresh_moments, fresh_kept, fresh_orderly, fresh_orderly_left, fresh_left}
-use Rattle.hx_history_laws.specs.Events.{free_is_there}
+use Rattle.hx_history_laws.specs.EventRuns.{either_still, entry_read, place_read, last_owns, last_moments, last_left, last_kept, last_orderly, last_orderly_left}
 use Rattle.hx_history_laws.specs.Keeping.{AreKept, IsOrderly}
-use Rattle.hx_history_laws.specs.Kept.{last_50, last_number, number_at_last, next_number, next_at_last}
+use Rattle.hx_history_laws.specs.Kept.{last_50, last_number, number_at_last}
 use Rattle.hx_history_laws.specs.PairRuns.{Moments}
 use Rattle.hx_history_laws.specs.Placed.{place_at}
 use Rattle.hx_history_laws.specs.EventRuns.{last_within}

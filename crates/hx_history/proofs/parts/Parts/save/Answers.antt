@@ -1,10 +1,8 @@
-use Rattle.std.proofs.Common.{rules, ◌≡◌, ◌≢◌, ◌≤◌, ◌<◌, ◌+◌, ◌-◌, ◌++◌, ℕ, List, Bool, Option, Some, None, true, false, [], ◌∷◌, length, drop, sym, ◌∙◌, ap, subst, arith, refl, inl, inr, set}
+use Rattle.std.proofs.Common.{rules, ◌≡◌, ◌≤◌, ◌-◌, List, true, false, length, sym, ◌∙◌, ap, subst, arith}
 use Rattle.std.proofs.lemmas.List.{length-drop}
-use Rattle.hx_vault.specs.Vaults.{VaultState}
 use Rattle.hx_history_laws.specs.declared.entry.HistoryEntry.{HistoryEntry}
 use Rattle.hx_history_laws.specs.Having.{HaveEither, HaveEntries}
-use Rattle.hx_history_laws.specs.Keeping.{AreKept, IsOrderly}
-use Rattle.hx_history_laws.specs.Kept.{Save, entry_of, joins_last, last_50, last_number, next, next_number}
+use Rattle.hx_history_laws.specs.Kept.{Save, joins_last, last_50, next}
 use Rattle.hx_history_laws.specs.PairRuns.{Moments}
 use Rattle.hx_history_laws.specs.Saves.{last_twice, saved_joined, saved_behind, some_joined, first_then, then_last, only_first}
 use Rattle.hx_history.proofs.parts.Parts.save.Goals as goal
