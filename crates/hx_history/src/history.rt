@@ -22,7 +22,8 @@ use std::marker::Model;
 /// The saved versions of one file on a disk of their own. Contracts see the entries that are kept, the greatest stamp that was
 /// given out or found, the moment of the opening, and the disk.
 ///
-/// Its type keeps, on a disk that tells its content, that whatever a crash leaves now has exactly these entries.
+/// Its type keeps, on a disk that tells its content, that whatever a crash leaves now has exactly these entries, and shows no
+/// stamp above the greatest.
 pub struct History<D: Disk> {
     parts: Parts<D>,
 
@@ -82,7 +83,7 @@ impl<D: Disk> History<D> {
         History { parts, opened }
     }
 
-    /// The last 50 entries, in order. Whatever a crash leaves now has them.
+    /// The last 50 entries, in order. Whatever a crash leaves now has them, and nothing else.
     pub fn entries(&self) -> &[HistoryEntry]
         ensures entries { result.now ≡ self.now.entries }
         ensures few { length self.now.entries ≤ 50 }
@@ -112,7 +113,7 @@ impl<D: Disk> History<D> {
     /// Keeps a save of the file. It takes the last entry's place where it joins that one's group, and is an entry of its own
     /// otherwise.
     ///
-    /// Whatever a crash inside the call leaves has the entries before it or those with the save.
+    /// Whatever a crash inside the call leaves has the entries before it or those with the save, and nothing else.
     pub fn add(self, moment: u64, content: &[u8]) -> Added<D>
         ensures kept { (h : HistoryState D) → result ≡ Added.Kept h → (joins_last self.entries moment ≡ false) × (h.entries ≡ next self.entries (record { moment = moment; content = content.now })) }
         ensures merged { (h : HistoryState D) → result ≡ Added.Merged h → (joins_last self.entries moment ≡ true) × (h.entries ≡ next self.entries (record { moment = moment; content = content.now })) }

@@ -155,8 +155,8 @@ impl<D: Disk> Parts<D> {
     {
         let last = self.entries.len() - 1;
         let number = self.entries[last].number;
-        let pair = self.places[last];
         let copy = Bytes::new(Vec::from_slice(self.alloc, content)?);
+        let pair = self.places[last];
         back_up(
             self.alloc,
             &mut self.disk,

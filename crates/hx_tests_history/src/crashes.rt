@@ -98,7 +98,11 @@ fn a_content_is_written_in_blocks(rt: HostRuntime) -> Result<(), Fail> {
         let (length, last) = (number(length), number(last));
         let alloc = rt.alloc();
         assert_eq!(rt; came(alloc, length, last)?, "kept", "{line}");
-        assert_eq!(rt; came(alloc, length, last.saturating_sub(1))?, "faulted", "{line}");
+        assert_eq!(rt;
+            came(alloc, length, last.saturating_sub(1))?,
+            "faulted",
+            "{line}"
+        );
     }
     Ok(())
 }
@@ -117,10 +121,7 @@ fn owed<R: Abort>(rt: &R, alloc: Global, line: &str) -> Result<(), Fail> {
     let (first, rest) = parted(rest);
     let (second, wanted) = parted(rest);
     let fails = fails.replace(alloc, ",", " ")?;
-    let held = many(
-        Held::Open(opened(alloc, memory(alloc, &fails, None)?)?),
-        50,
-    );
+    let held = many(Held::Open(opened(alloc, memory(alloc, &fails, None)?)?), 50);
     let (held, came_first) = held.save(500_000, b"x");
     let (held, came_second) = held.save(510_000, b"x");
     let mut disk = held.disk();

@@ -159,6 +159,9 @@ fn a_vault_is_a_history_or_is_refused_unchanged(rt: HostRuntime) -> Result<(), F
 fn of_51_found_the_last_50_are_seen_and_52_are_no_history(rt: HostRuntime) -> Result<(), Fail> {
     let alloc = rt.alloc();
     assert_eq!(rt; answered(alloc, &entries(alloc, 51)?)?.as_str(), "2..51");
-    assert_eq!(rt; answered(alloc, &entries(alloc, 52)?)?.as_str(), "not a history");
+    assert_eq!(rt;
+        answered(alloc, &entries(alloc, 52)?)?.as_str(),
+        "not a history"
+    );
     Ok(())
 }

@@ -3,6 +3,9 @@ use Rattle.hx_history_laws.specs.Saves.{left_none_above, left_histories, seen_st
 use Rattle.hx_history_laws.specs.Stamps.{since_then}
 use Rattle.hx_history.proofs.history.History.add.Goals as goal
 
+pub returns-in-Err-Fault-clause-refused : goal.returns-in-Err-Fault-clause-refused
+returns-in-Err-Fault-clause-refused g c = λ h why is. absurd cc
+
 pub returns-then-content-gt-CONTENT_MAX-clause-is_too_large : goal.returns-then-content-gt-CONTENT_MAX-clause-is_too_large
 returns-then-content-gt-CONTENT_MAX-clause-is_too_large g c = λ large. (_, refl)
 
@@ -45,6 +48,3 @@ returns-in-Err-Fault-clause-histories_faulted g c = λ told back is.
     let unspent : p.vault.stamp < 2 ^ 64 - 1 = search rules in
     left_histories g.D.Disk.time g.D.Disk.past g.D.Disk.now g.met.D.Disk.present p.entries.items p.vault c.save.new.self.vault c.self.inside.opened p.disk c.save.new.self.disk c.into_disk.result back c.args.self (c.self.invariant.2 told) (c.save.ensures.stamps told) c.self.view_is c.into_disk.ensures handed
     _ _ unspent c.save.ensures.stamp (c.save.ensures.moments told)
-
-pub returns-in-Err-Fault-clause-refused : goal.returns-in-Err-Fault-clause-refused
-returns-in-Err-Fault-clause-refused g c = λ h why is. absurd cc
