@@ -1,6 +1,5 @@
 use crate::tables::{Held, entries_of, many, memory, number, opened, parted};
 use hx_disk::Disk;
-use hx_memdisk::MemDisk;
 use std::alloc::Global;
 use std::process::Abort;
 use std::test::Fail;
@@ -77,14 +76,21 @@ const BLOCKS: &str = "\
 4096 262
 4097 264
 8192 264
-8193 266";
+8193 266
+524288 516";
+
+// So many bytes.
+fn bytes(alloc: Global, length: u64) -> Result<Vec<u8>, Fail> {
+    let mut bytes = Vec::new(alloc);
+    for _ in 0..length {
+        bytes.push(b'x')?;
+    }
+    Ok(bytes)
+}
 
 // What comes of a save of so many bytes under this fuse.
 fn came(alloc: Global, length: u64, fuse: u64) -> Result<&'static str, Fail> {
-    let mut content = Vec::new(alloc);
-    for _ in 0..length {
-        content.push(b'x')?;
-    }
+    let content = bytes(alloc, length)?;
     let held = Held::Open(opened(alloc, memory(alloc, "", Some(fuse))?)?);
     let (held, answer) = held.save(0, &content);
     let _ = held.disk();
@@ -138,5 +144,21 @@ fn what_an_emptying_owes_is_done_by_the_next_save(rt: HostRuntime) -> Result<(),
     for line in OWED.lines() {
         owed(&rt, rt.alloc(), line)?;
     }
+    Ok(())
+}
+
+#[test]
+fn a_save_that_is_too_large_leaves_undone_what_is_owed(rt: HostRuntime) -> Result<(), Fail> {
+    let alloc = rt.alloc();
+    let content = bytes(alloc, 524_289)?;
+    let held = many(
+        Held::Open(opened(alloc, memory(alloc, "563 564", None)?)?),
+        51,
+    );
+    let (held, large) = held.save(510_000, &content);
+    let (held, next) = held.save(510_000, b"x");
+    let _ = held.disk();
+    assert_eq!(rt; large, "refused");
+    assert_eq!(rt; next, "faulted");
     Ok(())
 }

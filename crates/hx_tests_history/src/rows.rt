@@ -1,7 +1,5 @@
-use crate::tables::{Held, entries_of, many, memory, number, opened, parted, shown};
+use crate::tables::{Held, entries_of, many, memory, number, opened, parted};
 use hx_disk::Disk;
-use hx_history::{Added, History, Refusal};
-use hx_memdisk::MemDisk;
 use std::alloc::Global;
 use std::process::Abort;
 use std::test::Fail;
