@@ -87,3 +87,6 @@ returns-then-ended-clause-work g c =
     let manned : reverse (all_duties scripts c.args.workers) ≡ map duty_of jobs = search rules in
     work_after (opening life) g.J.Naming.windows (says_of (start_of life)) (due_of life) (length life.names) scripts c.args.workers first (lends.actor ∙ ap (λ p. p.actor) c.requires.first) (unused_lent c.args.pass first lends (unused_fresh Closer [] g.J.Naming.parts c.args.pass c.requires.first)) es jobs done c.crew_of-crew.ensures.crew manned c.work.ensures ended c.requires.windows c.requires.workers.0
     (closed_of life g.J.Naming.windows first c.finish-passes-2.result.0.items done es c.requires.empty c.finish-passes-2.ensures.passes c.close-registry.ensures.closed)
+
+pub returns-else-ended-clause-work : goal.returns-else-ended-clause-work
+returns-else-ended-clause-work g c = tt

@@ -28,16 +28,18 @@ returns-in-Err-clause-over g c =
 
 -- the steps, one by one
 pub loop-step-init : goal.loop-step-init
-loop-step-init g c = record {
-  rest = sym c.into_iter-step-iterator.ensures.into_iter_gives.0;
-  left = search rules;
-  room = c.in-Ok.ensures.room;
-  named = c.in-Ok.ensures.named;
-  known = subst (λ (l : List Step). All (IsStepOf c.args.names.now) l) (sym c.into_iter-step-iterator.ensures.into_iter_gives.0) c.requires.known;
-  runs = c.in-Ok.ensures.runs;
-  running = subst (λ (ls : List Life). IsRunning g.D.Disk.picked g.D.Disk.tells g.D.Disk.time g.D.Disk.past c.args.guarded c.args.names.now (g.D.Disk.time c.args.disk) (g.D.Disk.failures c.args.disk) [] ls c.in-Ok.registry) (sym c.in-Ok.ensures.lives)
-      (c.in-Ok.ensures.begins (g.D.Disk.time c.args.disk) (g.D.Disk.failures c.args.disk) [] (started g.D.Disk.picked g.D.Disk.tells g.D.Disk.time g.D.Disk.past g.D.Disk.failures c.args.guarded c.args.names.now c.new-lives.result.lives c.args.disk c.new-lives.ensures));
-}
+loop-step-init g c =
+    let whole : into_iter_items c.into_iter-step-iterator.result ≡ c.args.steps.items = c.into_iter-step-iterator.ensures.into_iter_gives.0 in
+    record {
+      rest = sym whole;
+      left = search rules;
+      room = c.in-Ok.ensures.room;
+      named = c.in-Ok.ensures.named;
+      known = subst (λ (l : List Step). All (IsStepOf c.args.names.now) l) (sym whole) c.requires.known;
+      runs = c.in-Ok.ensures.runs;
+      running = subst (λ (ls : List Life). IsRunning g.D.Disk.picked g.D.Disk.tells g.D.Disk.time g.D.Disk.past c.args.guarded c.args.names.now (g.D.Disk.time c.args.disk) (g.D.Disk.failures c.args.disk) [] ls c.in-Ok.registry) (sym c.in-Ok.ensures.lives)
+          (c.in-Ok.ensures.begins (g.D.Disk.time c.args.disk) (g.D.Disk.failures c.args.disk) [] (started g.D.Disk.picked g.D.Disk.tells g.D.Disk.time g.D.Disk.past g.D.Disk.failures c.args.guarded c.args.names.now c.new-lives.result.lives c.args.disk c.new-lives.ensures));
+    }
 
 pub loop-step-preserved : goal.loop-step-preserved
 loop-step-preserved g c =

@@ -1,4 +1,5 @@
-use Rattle.std.proofs.Common.{rules, ◌∙◌, false, List, [], length, map, sym, subst}
+use Rattle.std.specs.Prelude.{is_err}
+use Rattle.std.proofs.Common.{◌≡◌, ◌∙◌, false, List, [], length, map, sym, subst}
 use Rattle.hx_events.specs.declared.event.Command.{Command}
 use Rattle.hx_events.specs.declared.life.Life.{Life}
 use Rattle.hx_rules.specs.Interleavings.{IsWorkOf}
@@ -72,8 +73,9 @@ returns-in-Ok-quit-clause-done g c = λ is steps parted.
     let has : HasWorked g.D.Disk.picked g.D.Disk.tells g.D.Disk.time g.D.Disk.past g.D.Disk.failures c.args.guarded c.args.names.now (g.D.Disk.time c.args.disk) (g.D.Disk.failures c.args.disk) c.next_life.new.lives.lives c.work-registry.result.0 =
     subst (λ (ls : List Life). HasWorked g.D.Disk.picked g.D.Disk.tells g.D.Disk.time g.D.Disk.past g.D.Disk.failures c.args.guarded c.args.names.now (g.D.Disk.time c.args.disk) (g.D.Disk.failures c.args.disk) ls c.work-registry.result.0) (sym c.in-Ok.ensures.lives)
     (worked g.D.Disk.picked g.D.Disk.tells g.D.Disk.time g.D.Disk.past g.D.Disk.failures c.args.guarded c.args.names.now (g.D.Disk.time c.args.disk) (g.D.Disk.failures c.args.disk) c.new-lives.result.lives c.in-Ok.registry c.work-registry.result.0 running c.work-registry.ensures.start c.work-registry.ensures.runs) in
+    let fine : is_err c.work-registry.result.1 ≡ false = sym c.is_err.ensures.value ∙ c.if-is_err.false in
     let work : IsWorkOf (opening c.in-Ok.registry.course) false (map (λ s. s.items) c.args.scripts.items) c.work-registry.result.0.course.entries =
-    of_ok c.work-registry.result.1 _ (search rules) c.work-registry.ensures.work in
+    of_ok c.work-registry.result.1 _ fine c.work-registry.ensures.work in
     let is_work : IsWorkOf (opening c.work-registry.result.0.course) false (scripts_of steps) c.work-registry.result.0.course.entries =
     subst (λ (ss : List (List Command)). IsWorkOf (opening c.work-registry.result.0.course) false ss c.work-registry.result.0.course.entries) parted
     (subst (λ (s : Start). IsWorkOf (opening_at s) false (map (λ s. s.items) c.args.scripts.items) c.work-registry.result.0.course.entries) (sym c.work-registry.ensures.start) work) in
@@ -96,8 +98,9 @@ returns-in-Err-quit-clause-for_memory g c = λ memory steps parted.
     subst (λ (ls : List Life). HasWorked g.D.Disk.picked g.D.Disk.tells g.D.Disk.time g.D.Disk.past g.D.Disk.failures c.args.guarded c.args.names.now (g.D.Disk.time c.args.disk) (g.D.Disk.failures c.args.disk) ls c.work-registry.result.0) (sym c.in-Ok.ensures.lives)
     (worked g.D.Disk.picked g.D.Disk.tells g.D.Disk.time g.D.Disk.past g.D.Disk.failures c.args.guarded c.args.names.now (g.D.Disk.time c.args.disk) (g.D.Disk.failures c.args.disk) c.new-lives.result.lives c.in-Ok.registry c.work-registry.result.0 running c.work-registry.ensures.start c.work-registry.ensures.runs) in
     let in_part : IsPartOf false (scripts_of steps) c.work-registry.result.0.course.entries = subst (λ (ss : List (List Command)). IsPartOf false ss c.work-registry.result.0.course.entries) parted c.work-registry.ensures.part in
+    let fine : is_err c.work-registry.result.1 ≡ false = sym c.is_err.ensures.value ∙ c.if-is_err.false in
     let work : IsWorkOf (opening c.in-Ok.registry.course) false (map (λ s. s.items) c.args.scripts.items) c.work-registry.result.0.course.entries =
-    of_ok c.work-registry.result.1 _ (search rules) c.work-registry.ensures.work in
+    of_ok c.work-registry.result.1 _ fine c.work-registry.ensures.work in
     let is_work : IsWorkOf (opening c.work-registry.result.0.course) false (scripts_of steps) c.work-registry.result.0.course.entries =
     subst (λ (ss : List (List Command)). IsWorkOf (opening c.work-registry.result.0.course) false ss c.work-registry.result.0.course.entries) parted
     (subst (λ (s : Start). IsWorkOf (opening_at s) false (map (λ s. s.items) c.args.scripts.items) c.work-registry.result.0.course.entries) (sym c.work-registry.ensures.start) work) in

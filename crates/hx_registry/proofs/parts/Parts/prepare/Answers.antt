@@ -58,3 +58,12 @@ returns-in-Err-clause-kept g c =
     let left : v.stamp < 18446744073709551615 = subst (λ (k : VaultState). k.stamp < 18446744073709551615) (sym c.reserve.ensures.same) (c.is_spent.ensures.left c.if-is_spent.false) in
     subst (λ (k : Course). RegistryInvariant g.D.Disk.tells g.D.Disk.time g.D.Disk.past g.D.Disk.now g.D.Disk.failures k c.prepare.new.self s.held.items new) (sym c.step-in-Err.ensures.added)
     (prepare_failed_invariant g.D.Disk.tells g.D.Disk.time g.D.Disk.past g.D.Disk.now g.D.Disk.failures g.met.D.Disk.present course v c.prepare.new.self s.held.items c.reserve.new.disk new e c.args.res c.args.pair (version_due (vault_due (opening course) course.entries c.args.res)) holding c.requires.holds c.requires.known refl refl refl c.step-in-Err.ensures.entry.row c.prepare.ensures.cause.later (c.step-in-Err.ensures.outcome ∙ stage_failed (opening course) course.entries c.args.res c.args.res Prepare (due_asks (opening s.life.course) s.life.course.entries c.args.res Prepare c.requires.due) (λ is. unspent (was_spent course.entries) s.vault.stamp c.requires.kept.spent (c.is_spent.ensures.left c.if-is_spent.false))) c.in-Err.ensures.err left c.in-Err.ensures.cause.failed c.prepare.ensures.runs c.in-Err.ensures.each)
+
+pub returns-in-Ok-clause-entry : goal.returns-in-Ok-clause-entry
+returns-in-Ok-clause-entry g c = c.step-in-Ok.ensures.entry
+
+pub returns-in-Err-clause-entry : goal.returns-in-Err-clause-entry
+returns-in-Err-clause-entry g c = c.step-in-Err.ensures.entry
+
+pub returns-then-is_spent-clause-entry : goal.returns-then-is_spent-clause-entry
+returns-then-is_spent-clause-entry g c = c.step.ensures.entry
