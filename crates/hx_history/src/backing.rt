@@ -15,7 +15,7 @@ ghost use Rattle.hx_history_laws.specs.PairRuns.{PairRun};
 ghost use Rattle.hx_history_laws.specs.PairStages.{IsPairFine};
 ghost use Rattle.hx_history_laws.specs.Stamps.{AreStamped};
 
-use crate::frames::{BLOCK, behind, first_block};
+use crate::frames::{behind_first, first_block};
 use crate::halts::Halt;
 use crate::stages::{close_away, drop_home, fade, open_away, put_block, put_blocks};
 use hx_disk::Disk;
@@ -54,7 +54,7 @@ pub fn back_up<D: Disk>(
     let first = first_block(alloc, vault.stamp() + 1, number, moment, content)?;
     close_away(disk, vault, pair)?;
     put_block(disk, vault, pair, &first)?;
-    put_blocks(disk, vault, pair, behind(content, BLOCK))?;
+    put_blocks(disk, vault, pair, behind_first(content))?;
     open_away(disk, vault, pair)
 }
 

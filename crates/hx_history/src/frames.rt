@@ -36,11 +36,18 @@ fn front(bytes: &[u8], most: usize) -> &[u8]
     &bytes[..most.min(bytes.len())]
 }
 
-/// What stands from this place on.
-pub fn behind(bytes: &[u8], from: usize) -> &[u8]
+// What stands from this place on.
+fn behind(bytes: &[u8], from: usize) -> &[u8]
     ensures { result.now ≡ drop from bytes.now }
 {
     &bytes[from.min(bytes.len())..]
+}
+
+/// What of a content stands behind its first block.
+pub fn behind_first(content: &[u8]) -> &[u8]
+    ensures { result.now ≡ drop 4096 content.now }
+{
+    behind(content, BLOCK)
 }
 
 /// The first block of an entry: all that its slot file has between the gate and the content, and the content's first 4,096

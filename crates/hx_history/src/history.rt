@@ -102,9 +102,12 @@ impl<D: Disk> History<D> {
         self.parts.disk.faults()
     }
 
-    /// Hands the disk out.
+    /// Hands the disk out. Whatever a crash leaves of it has the entries, and nothing else.
     pub fn finish(self) -> D
-        ensures { result ≡ self.disk }
+        ensures disk { result ≡ self.disk }
+        ensures kept { IsTrue D.tells → HaveEntries self.entries (D.now self.disk) }
+        ensures stamps { IsTrue D.tells → NoneAbove self.stamp (D.now self.disk) }
+        ensures histories { IsTrue D.tells → AreOwn (D.past self.disk self.opened) → AreHistories (D.now self.disk) }
     {
         let History { parts, opened: _ } = self;
         parts.into_disk()

@@ -9,6 +9,7 @@ ghost use Rattle.hx_history_laws.specs.Having.{HaveEither, HaveEntries};
 ghost use Rattle.hx_history_laws.specs.Keeping.{AreKept, IsOrderly};
 ghost use Rattle.hx_history_laws.specs.Kept.{joins_last, last_50, last_number, next, next_number};
 ghost use Rattle.hx_history_laws.specs.PairRuns.{Moments};
+ghost use Rattle.hx_history_laws.specs.Placed.{place_at};
 ghost use Rattle.hx_history_laws.specs.Stamps.{AreStamped};
 
 use crate::backing::{back_up, empty};
@@ -131,6 +132,14 @@ impl<D: Disk> Parts<D> {
         }
     }
 
+    // The pair of this entry.
+    fn pair_at(&self, place: usize) -> PairNo
+        requires { place < length self.now.places.items }
+        ensures { result ≡ place_at self.now.places.items place }
+    {
+        self.places[place]
+    }
+
     /// Writes the save in the last entry's place.
     pub fn merge(&mut self, moment: u64, content: &[u8]) -> Result<u64, Halt>
         requires orderly { IsOrderly self.old.entries.items self.old.places.items self.old.vault }
@@ -156,7 +165,7 @@ impl<D: Disk> Parts<D> {
         let last = self.entries.len() - 1;
         let number = self.entries[last].number;
         let copy = Bytes::new(Vec::from_slice(self.alloc, content)?);
-        let pair = self.places[last];
+        let pair = self.pair_at(last);
         back_up(
             self.alloc,
             &mut self.disk,

@@ -21,8 +21,8 @@ use Rattle.hx_vault.specs.Scans.{no_greater_stamp}
 use Rattle.hx_pairs.specs.OnePair.{Reads}
 use Rattle.hx_pairs.specs.Opened.{held_counts}
 use Rattle.hx_pairs.specs.Words.{at_place}
-use Rattle.hx_history_laws.specs.Entries.{backup_of_entry, entry_at}
-use Rattle.hx_history_laws.specs.Having.{HoldsEntries}
+use Rattle.hx_history_laws.specs.Entries.{AreEntries, backup_of_entry, entry_at}
+use Rattle.hx_history_laws.specs.Having.{HaveEntries, HoldsEntries, held_all}
 use Rattle.hx_history_laws.specs.Opening.{HasHistory}
 use Rattle.hx_history_laws.specs.Placed.{ArePlaced, IsUnplaced, elsewhere, place_at}
 use Rattle.hx_history_laws.specs.Stamps.{AreNumbered, NoneAbove, none_shown_above}
@@ -31,9 +31,13 @@ use Rattle.hx_history_laws.specs.Stamps.{AreNumbered, NoneAbove, none_shown_abov
 abbrev pub AreHistories : (ℕ → FileState) → Type 0
 AreHistories files = (image : ℕ → List ℕ) → IsDiskImage files image → HasHistory image × AreNumbered image
 
+-- Whatever a crash leaves of these files shows nothing in any slot file.
+abbrev pub HasEmptyVault : (ℕ → FileState) → Type 0
+HasEmptyVault files = (image : ℕ → List ℕ) → IsDiskImage files image → (p : ℕ) (side : Side) → p < 64 → shown_in (image (file_of p side)) ≡ None
+
 -- A vault in which nothing shows is a history, of no entry.
 abbrev pub EmptyVault : Type 0
-EmptyVault = (files : ℕ → FileState) → ((image : ℕ → List ℕ) → IsDiskImage files image → (p : ℕ) (side : Side) → p < 64 → shown_in (image (file_of p side)) ≡ None) → AreHistories files
+EmptyVault = (files : ℕ → FileState) → HasEmptyVault files → AreHistories files × HaveEntries [] files × NoneAbove 0 files
 
 -- ---- proofs
 
@@ -124,13 +128,10 @@ nothing_above image silent = none_shown_above (λ p. image (2 * p)) (λ p. image
     (λ p lt. subst (λ (x : Option Frame). stamp_of x ≤ 0) (sym (silent p A lt)) (omega arith))
     (λ p lt. subst (λ (x : Option Frame). stamp_of x ≤ 0) (sym (silent p B lt)) (omega arith))
 
-pub empty_vault : EmptyVault
-empty_vault files silent = are_histories files 0 (omega arith) (λ image is. nothing_above image (silent image is))
-    (λ image is. record {
-      entries = [];
-      places = [];
-      most = 0;
-      placed = record {
+module _ (files : ℕ → FileState) (silent : HasEmptyVault files) where
+  none_held : (image : ℕ → List ℕ) → IsDiskImage files image → AreEntries image [] × HoldsEntries image
+  none_held image is = held_all [] [] 0
+      (record {
         first = 1;
         numbers = λ i lt. absurd (omega (arith, lt));
         some = omega arith;
@@ -140,10 +141,19 @@ empty_vault files silent = are_histories files 0 (omega arith) (λ image is. not
         count = refl;
         below = λ i lt. absurd (omega (arith, lt));
         apart = λ i j lt_i lt_j same. absurd (omega (arith, lt_i));
-      };
-      held = record {
+      })
+      image
+      (record {
         each = λ i lt. absurd (omega (arith, lt));
         others = λ p lt none. nothing_held image p (silent image is p A lt) (silent image is p B lt);
-      };
-    })
-    (λ image is p side frame lt shows. absurd (let odd : None ≡ Some frame = sym (silent image is p side lt) ∙ shows in cc))
+      })
+
+  none_shown : NoneAbove 0 files
+  none_shown image is = nothing_above image (silent image is)
+
+  none_foreign : AreHistories files
+  none_foreign = are_histories files 0 (omega arith) none_shown (λ image is. (none_held image is).1)
+      (λ image is p side frame lt shows. absurd (let odd : None ≡ Some frame = sym (silent image is p side lt) ∙ shows in cc))
+
+pub empty_vault : EmptyVault
+empty_vault files silent = (none_foreign files silent, none_held files silent, none_shown files silent)

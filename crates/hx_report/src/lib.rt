@@ -19,6 +19,7 @@ pub use copy_facts::facts;
 pub use counts::summary;
 pub use outline::{Outline, is_new_version};
 pub use pair_lines::pairs;
+pub use put::{put_decimal, put_number, put_text};
 pub use saves::{Saves, ends_save};
 pub use tail_lines::tail;
 pub use tally::named;

@@ -7,8 +7,8 @@ use hx_base::escape;
 use itoa::Buffer;
 use std::alloc::{AllocError, Global};
 
-// The number's decimal text.
-pub(crate) fn put_decimal(out: &mut Vec<u8>, value: u64) -> Result<(), AllocError>
+/// Appends the number's decimal text. After want of memory a part of it may stand there.
+pub fn put_decimal(out: &mut Vec<u8>, value: u64) -> Result<(), AllocError>
     ensures { OnOk result (out.new.items ≡ out.old.items ++ decimal value) }
 {
     let mut buffer = Buffer::new();
@@ -23,16 +23,16 @@ pub(crate) fn put_field(out: &mut Vec<u8>, field: &[u8]) -> Result<(), AllocErro
     out.extend_from_slice(field)
 }
 
-// The number behind a blank.
-pub(crate) fn put_number(out: &mut Vec<u8>, value: u64) -> Result<(), AllocError>
+/// Appends a blank and the number's decimal text. After want of memory a part of it may stand there.
+pub fn put_number(out: &mut Vec<u8>, value: u64) -> Result<(), AllocError>
     ensures { OnOk result (out.new.items ≡ out.old.items ++ spaced (decimal value ∷ [])) }
 {
     out.push(b' ')?;
     put_decimal(out, value)
 }
 
-// The bytes as a text behind a blank.
-pub(crate) fn put_text(alloc: Global, out: &mut Vec<u8>, text: &[u8]) -> Result<(), AllocError>
+/// Appends a blank, `=` and the bytes escaped. After want of memory a part of it may stand there.
+pub fn put_text(alloc: Global, out: &mut Vec<u8>, text: &[u8]) -> Result<(), AllocError>
     ensures { OnOk result (out.new.items ≡ out.old.items ++ spaced (text_field text.now ∷ [])) }
 {
     out.extend_from_slice(b" =")?;

@@ -1,15 +1,14 @@
 -- Bytes that are cut at the first byte of a value.
-use Rattle.std.proofs.Common.{◌≡◌, ◌<◌, ℕ, ◌+◌, ◌-◌, Bool, true, false, not, ◌≤◌, nat_lt, List, [], ◌∷◌, ◌++◌, length, take, drop, get_or, Some, None, if◌then◌else◌, refl, sym, ◌∙◌, ap, arith, append_assoc, zero, suc}
+use Rattle.std.proofs.Common.{◌≡◌, ◌<◌, ℕ, ◌+◌, ◌-◌, Bool, true, false, ◌≤◌, nat_lt, List, [], ◌∷◌, ◌++◌, length, take, drop, get_or, Some, None, if◌then◌else◌, refl, sym, ◌∙◌, ap, arith, append_assoc, zero, suc}
 use Rattle.std.specs.Borrow.{Bor}
 use Rattle.std.specs.List.{slice_split, position_or_len, before_first, after_first, onto_first as onto_first_part}
-use Rattle.std.proofs.lemmas.List.Splits.{slice_split_first, slice_split-cons_no}
 use Rattle.std.proofs.lemmas.List.Sums.{position_or_len_is}
 use Rattle.std.proofs.lemmas.List.{map-append, length-append}
-use Rattle.std.proofs.lemmas.List.Sums.{prefix_len-le-length}
 use Rattle.std.proofs.lemmas.Bool.Decides.{nat_tests}
 use Rattle.memchr.specs.Find.{IsFirstByte, is_byte as passes}
 use Rattle.hx_events.specs.Fields.{fields_of, onto_first}
 use Rattle.hx_script.specs.Lines.{is_byte, cut_at, texts, first_field}
+use Rattle.hx_script.specs.LineLaws.{split_some, split_none}
 
 untrue : (b : Bool) → (b ≡ true → ⊥) → b ≡ false
 untrue true is = absurd (is refl)
@@ -47,40 +46,6 @@ pub cut_none : (wanted : ℕ) (bytes : List ℕ) → IsFirstByte (passes wanted)
 cut_none wanted bytes first =
     by_no_test (nat_lt (position_or_len (is_byte wanted) bytes) (length bytes)) (before_first (is_byte wanted) bytes, after_first (is_byte wanted) bytes)
     (ap (λ n. nat_lt n (length bytes)) (no_place wanted bytes first) ∙ lt_false (length bytes))
-
--- what a cut says of the parts round all such bytes
-no_test : {A : Type 0} (b : Bool) (x : A) → (if b then Some x else None) ≡ None → b ≡ false
-no_test true x none = absurd cc
-no_test false x none = refl
-
-not_below : (n m : ℕ) → n ≤ m → nat_lt n m ≡ false → n ≡ m
-not_below n m le past = grind (arith, nat_tests)
-
-split_whole : (wanted : ℕ) (bytes : List ℕ) → position_or_len (is_byte wanted) bytes ≡ length bytes → slice_split (is_byte wanted) bytes ≡ bytes ∷ []
-split_whole wanted [] none = refl
-split_whole wanted (b ∷ rest) none = by_byte (is_byte wanted b) refl none (split_whole wanted rest)
-  where
-    by_byte : (t : Bool) → is_byte wanted b ≡ t → position_or_len (is_byte wanted) (b ∷ rest) ≡ length (b ∷ rest) → (position_or_len (is_byte wanted) rest ≡ length rest → slice_split (is_byte wanted) rest ≡ rest ∷ [])
-        → slice_split (is_byte wanted) (b ∷ rest) ≡ (b ∷ rest) ∷ []
-    by_byte true ends none others = absurd (omega (arith, rw ends at none))
-    by_byte false goes_on none others = slice_split-cons_no (is_byte wanted) b rest goes_on ∙ ap (onto_first_part b) (others (omega (arith, rw goes_on at none)))
-
-pub split_none : (wanted : ℕ) (bytes : List ℕ) → cut_at wanted bytes ≡ None → slice_split (is_byte wanted) bytes ≡ bytes ∷ []
-split_none wanted bytes none =
-    split_whole wanted bytes (not_below (position_or_len (is_byte wanted) bytes) (length bytes) (prefix_len-le-length (λ x. not (is_byte wanted x)) bytes) (no_test (nat_lt (position_or_len (is_byte wanted) bytes) (length bytes)) (before_first (is_byte wanted) bytes, after_first (is_byte wanted) bytes) none))
-
-some_parts : (b : Bool) (x y : List ℕ × List ℕ) → (if b then Some x else None) ≡ Some y → (b ≡ true) × (x ≡ y)
-some_parts true x y e = (refl, cc)
-some_parts false x y e = absurd cc
-
-lt_from : (a b : ℕ) → nat_lt a b ≡ true → a < b
-lt_from a b t = grind (arith, nat_tests)
-
-pub split_some : (wanted : ℕ) (bytes front behind : List ℕ) → cut_at wanted bytes ≡ Some (front, behind) → slice_split (is_byte wanted) bytes ≡ front ∷ slice_split (is_byte wanted) behind
-split_some wanted bytes front behind cut =
-    let parts = some_parts (nat_lt (position_or_len (is_byte wanted) bytes) (length bytes)) (before_first (is_byte wanted) bytes, after_first (is_byte wanted) bytes) (front, behind) cut in
-    slice_split_first (is_byte wanted) bytes 0 (lt_from _ _ parts.0)
-    ∙ ap (λ (p : List ℕ × List ℕ). p.0 ∷ slice_split (is_byte wanted) p.1) parts.1
 
 -- fields are the parts round blanks
 pub fields_are : (line : List ℕ) → fields_of line ≡ slice_split (is_byte 32) line

@@ -1,5 +1,5 @@
 -- What a script's reader knows of fields and steps.
-use Rattle.std.proofs.Common.{◌≡◌, ℕ, List, [], ◌∷◌, take, refl, ◌∙◌, ap, Option, Some, None}
+use Rattle.std.proofs.Common.{◌≡◌, ℕ, List, [], ◌∷◌, take, refl, Option, Some, None}
 use Rattle.std.specs.Borrow.{Bor}
 use Rattle.hx_events.specs.Fields.{fields_of}
 use Rattle.hx_events.specs.declared.event.Actor.{Actor}
@@ -9,6 +9,7 @@ use Rattle.hx_script.specs.declared.declarations.Kind.TheVariants.{Declares, Pla
 use Rattle.hx_script.specs.declared.script.Form.{Form}
 use Rattle.hx_script.specs.declared.script.Script.{Script}
 use Rattle.hx_script.specs.Lines.{texts}
+use Rattle.hx_script.specs.LineLaws.{fields_say}
 use Rattle.hx_script.specs.Scripts.{fields_in, line_in, kind_in, line_of_kind, event_line}
 
 -- eight fields say what all do
@@ -40,6 +41,4 @@ enough form n s (a ∷ b ∷ c ∷ d ∷ e ∷ f ∷ g ∷ h ∷ more) = by_kind
 
 -- the fields of a line say what the line does
 pub line_is : (form : Form) (n : ℕ) (s : Script) (line : List ℕ) (fields items : List (Bor (List ℕ))) → fields ≡ items → texts items ≡ take 8 (fields_of line) → fields_in form n s (texts fields) ≡ line_in form n s line
-line_is form n s line fields items same parted =
-    ap (λ (fs : List (Bor (List ℕ))). fields_in form n s (texts fs)) same
-    ∙ ap (fields_in form n s) parted ∙ enough form n s (fields_of line)
+line_is form n s line fields items same parted = fields_say (fields_in form n s) 8 line fields items (enough form n s) same parted

@@ -1,5 +1,6 @@
 pub mod Readings
 pub mod Lines
+pub mod LineLaws
 pub mod Values
 pub mod Events
 pub mod Scripts

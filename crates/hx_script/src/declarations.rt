@@ -52,7 +52,7 @@ pub fn kind_in(field: &[u8]) -> Option<Kind>
 }
 
 /// What a line gives, or the first of its reasons in their order: it has no form, isn't allowed at its place, is one too
-/// many, has a bad field.
+/// many, has a bad field. Want of memory stays want of memory.
 pub fn ranked<T: Drop>(
     line: Result<T, LineError>,
     is_misplaced: bool,

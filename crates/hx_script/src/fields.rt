@@ -32,7 +32,8 @@ pub fn cut_at(wanted: u8, bytes: &[u8]) -> Option<(&[u8], &[u8])>
     }
 }
 
-/// The bytes behind a first line that is the header.
+/// The bytes behind a first line that is the header, without its line feed. `Bad` has line 1: `NoEnd` where there are bytes but
+/// no line feed, `Header` where there are none or the line is another one.
 pub fn behind_header<'a>(header: &[u8], bytes: &'a [u8]) -> Result<&'a [u8], ScriptError>
     ensures ok { IfOk result (λ rest. behind_header header.now bytes.now ≡ Reads rest.now) }
     ensures bad { (line : ℕ) (why : Why) → result ≡ Err (ScriptError.Bad line why) → behind_header header.now bytes.now ≡ Refused line why }
@@ -45,7 +46,8 @@ pub fn behind_header<'a>(header: &[u8], bytes: &'a [u8]) -> Result<&'a [u8], Scr
     }
 }
 
-/// The first fields of a line, at most so many. More would be no use, since no line has them.
+/// Puts the first fields of a line, at most so many, in place of those that stood there. More would be no use where no line has
+/// them. After want of memory the fields may be too few.
 pub fn split_fields<'a>(
     line: &'a [u8],
     most: usize,

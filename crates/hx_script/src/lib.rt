@@ -1,4 +1,6 @@
 //! Scripts and traces as bytes, read back exactly, and the script that is generated.
+//!
+//! What reads a line and its fields is public too, for other formats of this kind.
 #![tactic(auto)]
 
 mod declarations;
@@ -16,10 +18,13 @@ mod trace_reader;
 mod values;
 mod why;
 
+pub use declarations::{ranked, settled};
+pub use fields::{behind_header, cut_at, is, split_fields};
 pub use generator::made;
 pub use laws::{a_line_reads_as_its_event, there_is_one_life_more_than_ends};
-pub use reader::read_script;
+pub use reader::{SCRIPT_MAX, read_script};
 pub use script::{Form, Plant, Script, Step};
 pub use trace::{Trace, TraceLife};
 pub use trace_reader::read_trace;
-pub use why::{ScriptError, Why};
+pub use values::{number_in, text_in};
+pub use why::{LineError, ScriptError, Why};

@@ -9,7 +9,7 @@ use hx_base::{EscapeError, read_decimal, unescape};
 use hx_events::{Bytes, Names, ResNo};
 use std::alloc::Global;
 
-/// A decimal number.
+/// A decimal number of 64 bits, or `Number`.
 pub fn number_in(field: &[u8]) -> Result<u64, Why>
     ensures { result ≡ number_in field.now }
 {
@@ -36,7 +36,7 @@ pub fn resource_in(names: &Names, field: &[u8]) -> Result<ResNo, Why>
     names.find(field).ok_or(Why::Resource)
 }
 
-/// A text behind its `=`.
+/// The bytes of an escaped text behind its `=`, or `Escape`.
 pub fn text_in(alloc: Global, field: &[u8]) -> Result<Bytes, LineError>
     ensures { Answers result (text_in field.now) }
 {

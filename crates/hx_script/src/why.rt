@@ -71,7 +71,9 @@ impl<T: Drop> From<AllocFailed<T>> for ScriptError {
 /// Why a line can't be read.
 #[derive(Clone, Copy, Debug, PartialEq, Eq)]
 pub enum LineError {
+    /// The first of its reasons.
     Bad(Why),
+
     NoMemory,
 }
 
@@ -102,7 +104,7 @@ impl<T: Drop> From<AllocFailed<T>> for LineError {
 impl LineError {
     ghost use Rattle.hx_script.specs.Readings.{error_at};
 
-    /// The same, at the line with this number.
+    /// The same of the source as a whole, at the line with this number.
     pub fn at(self, line: u64) -> ScriptError
         ensures { result ≡ error_at line self }
     {

@@ -33,6 +33,7 @@ fn run_at_once<R: Threads + Wait + Sync, G: Gate + Sync>(
         end,
         disk: _,
         lives: _,
+        marks: _,
     } = top_run(rt, alloc, &words, &mut source, &mut sink, disk, gate);
     Ok((end, sink.bytes().to_vec(alloc)?))
 }

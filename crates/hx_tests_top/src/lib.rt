@@ -27,6 +27,8 @@ mod sessions_of_exits;
 #[cfg(test)]
 mod sessions_of_guards;
 #[cfg(test)]
+mod sessions_of_histories;
+#[cfg(test)]
 mod sessions_of_saves;
 #[cfg(test)]
 mod stores;

@@ -10,6 +10,7 @@ use crate::sessions_of_blocks::BLOCKS;
 use crate::sessions_of_ends::ENDS;
 use crate::sessions_of_exits::EXITS;
 use crate::sessions_of_guards::GUARDS;
+use crate::sessions_of_histories::HISTORIES;
 use crate::sessions_of_saves::SAVES;
 use hx_filedisk::Stores;
 use std::alloc::{AllocError, Global};
@@ -159,6 +160,7 @@ fn each_session_prints_what_was_worked_out(rt: HostRuntime) -> Result<(), Fail> 
     play_all(&rt, alloc, BLOCKS)?;
     play_all(&rt, alloc, GUARDS)?;
     play_all(&rt, alloc, EXITS)?;
+    play_all(&rt, alloc, HISTORIES)?;
     play_all(&rt, alloc, ENDS)
 }
 

@@ -127,6 +127,45 @@ fn one_program_at_a_time_holds_a_folder(rt: HostRuntime) -> Result<(), Fail> {
     Ok(fs::remove_dir_all(&rt, "held")?)
 }
 
+const SAVES: &str = "hotexit history 1
+saved 0 =a
+saved 20000 =b
+";
+
+#[test]
+fn a_history_in_a_folder_goes_on(rt: HostRuntime) -> Result<(), Fail> {
+    let alloc = rt.alloc();
+    empty_folder(&rt, "versions")?;
+    let ran = run(&rt, alloc, "--store versions history", SAVES.as_bytes())?;
+    ends_so(&rt, &ran, 0, "kept 1\nkept 2\nentry 1 0 =a\nentry 2 20000 =b\n", "");
+    let ran = run(
+        &rt,
+        alloc,
+        "--store versions history",
+        b"hotexit history 1\nsaved 20001 =c\n",
+    )?;
+    ends_so(&rt, &ran, 0, "merged 2\nentry 1 0 =a\nentry 2 20001 =c\n", "");
+    Ok(fs::remove_dir_all(&rt, "versions")?)
+}
+
+#[test]
+fn backups_are_no_history(rt: HostRuntime) -> Result<(), Fail> {
+    let alloc = rt.alloc();
+    empty_folder(&rt, "foreign")?;
+    let ran = run(&rt, alloc, "--store foreign replay", BACKED_UP.as_bytes())?;
+    assert!(rt; ran.code == ExitCode::from(0));
+    let ran = run(&rt, alloc, "--store foreign history", SAVES.as_bytes())?;
+    ends_so(&rt, &ran, 8, "", "not a history\n");
+    let ran = run(
+        &rt,
+        alloc,
+        "--store foreign restore",
+        b"hotexit 1\nfile file:///a\n",
+    )?;
+    ends_so(&rt, &ran, 0, "pair 0 restored file:///a none =hello\n", "");
+    Ok(fs::remove_dir_all(&rt, "foreign")?)
+}
+
 /// Whether nothing in the session goes by the times of files, or by what a crash leaves.
 fn is_of_any_disk(words: &str, input: &str) -> bool {
     (words == "replay" || words == "restore")

@@ -5,3 +5,4 @@ mod Guarded
 mod Served
 mod LastLife
 mod Closing
+mod Ending

@@ -8,7 +8,7 @@ use Rattle.hx_play.specs.declared.playing.Halt.{Halt}
 use Rattle.hx_play.specs.declared.playing.Halt.TheVariants.{Done as ToTheEnd, OpenFault as ToAnOpening, NoMemory as ToWantOfMemory}
 use Rattle.hx_play.specs.Runs.{HaveRun, HaveRunInPart}
 use Rattle.hx_top.specs.declared.whole.End.{End}
-use Rattle.hx_top.specs.declared.whole.End.TheVariants.{Done, Usage, BadScript, ReadFault, WriteFault, NoMemory, OpenFault}
+use Rattle.hx_top.specs.declared.whole.End.TheVariants.{Done, Usage, BadScript, ReadFault, WriteFault, NoMemory, OpenFault, NotHistory}
 use Rattle.hx_top.specs.Runs.{RunTo}
 use Rattle.hx_top.specs.Whole.{EndsAs, FollowTo, IsOfPlay, IsOfPrint}
 
@@ -20,6 +20,7 @@ of_play ToTheEnd Usage ends = absurd ends
 of_play ToTheEnd (BadScript line why) ends = absurd ends
 of_play ToTheEnd ReadFault ends = absurd ends
 of_play ToTheEnd OpenFault ends = absurd ends
+of_play ToTheEnd NotHistory ends = absurd ends
 of_play ToAnOpening end ends = subst IsOfPlay (sym ends) tt
 of_play ToWantOfMemory end ends = subst IsOfPlay (sym ends) tt
 
@@ -38,6 +39,7 @@ to_end P ToTheEnd Usage ends done written unprinted opening memory = absurd ends
 to_end P ToTheEnd (BadScript line why) ends done written unprinted opening memory = absurd ends
 to_end P ToTheEnd ReadFault ends done written unprinted opening memory = absurd ends
 to_end P ToTheEnd OpenFault ends done written unprinted opening memory = absurd ends
+to_end P ToTheEnd NotHistory ends done written unprinted opening memory = absurd ends
 to_end P ToAnOpening end ends done written unprinted opening memory = subst P (sym ends) (opening refl)
 to_end P ToWantOfMemory end ends done written unprinted opening memory = subst P (sym ends) (memory refl)
 

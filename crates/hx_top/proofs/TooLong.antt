@@ -8,6 +8,7 @@ use Rattle.hx_script.specs.declared.why.Why.TheVariants.{TooLong}
 use Rattle.hx_script.specs.Readings.{Reading, Refused}
 use Rattle.hx_script.specs.Scripts.{script_in}
 use Rattle.hx_script.specs.Traces.{trace_in}
+use Rattle.hx_history_script.specs.Scripts.{history_script_in}
 use Rattle.hx_top.specs.declared.whole.End.TheVariants.{BadScript}
 
 over : (limit n : ℕ) → limit < n → nat_lt limit n ≡ true
@@ -21,11 +22,18 @@ trace_over : (bytes : List ℕ) → nat_lt 67108864 (length bytes) ≡ true → 
 unfolding trace_in
 trace_over bytes is = rw is
 
+history_over : (bytes : List ℕ) → nat_lt 4194304 (length bytes) ≡ true → history_script_in bytes ≡ Refused 0 TooLong
+unfolding history_script_in
+history_over bytes is = rw is
+
 pub script_too_long : (form : Form) (bytes : List ℕ) → 4194304 < length bytes → script_in form bytes ≡ Refused 0 TooLong
 script_too_long form bytes more = script_over form bytes (over 4194304 (length bytes) more)
 
 pub trace_too_long : (bytes : List ℕ) → 67108864 < length bytes → trace_in bytes ≡ Refused 0 TooLong
 trace_too_long bytes more = trace_over bytes (over 67108864 (length bytes) more)
+
+pub history_too_long : (bytes : List ℕ) → 4194304 < length bytes → history_script_in bytes ≡ Refused 0 TooLong
+history_too_long bytes more = history_over bytes (over 4194304 (length bytes) more)
 
 -- the end that was answered is the one for a source that is too long
 pub same_refusal : {A : Type 0} {r : Reading A} → r ≡ Refused 0 TooLong → (line : ℕ) (why : Why) → BadScript 0 TooLong ≡ BadScript line why → r ≡ Refused line why

@@ -3,7 +3,7 @@ use Rattle.std.specs.Prelude.{ℕ, List, [], ◌++◌, codes, decimal}
 use Rattle.hx_script.specs.declared.why.Why.{Why}
 use Rattle.hx_script.specs.declared.why.Why.TheVariants.{TooLong, NoEnd, Header, Form, Place, TooMany, Number, Escape, Resource, Declared}
 use Rattle.hx_top.specs.declared.whole.End.{End}
-use Rattle.hx_top.specs.declared.whole.End.TheVariants.{Done, Usage, BadScript, ReadFault, WriteFault, NoMemory, OpenFault}
+use Rattle.hx_top.specs.declared.whole.End.TheVariants.{Done, Usage, BadScript, ReadFault, WriteFault, NoMemory, OpenFault, NotHistory}
 
 -- the exit status
 abbrev pub status_of : End → ℕ
@@ -14,6 +14,7 @@ status_of ReadFault = 4
 status_of WriteFault = 5
 status_of NoMemory = 6
 status_of OpenFault = 7
+status_of NotHistory = 8
 
 -- the name of a reason, in lower case
 abbrev pub why_name : Why → List ℕ
@@ -37,3 +38,4 @@ error_text ReadFault = codes "input failed\n"
 error_text WriteFault = codes "output failed\n"
 error_text NoMemory = codes "out of memory\n"
 error_text OpenFault = codes "the vault could not be opened\n"
+error_text NotHistory = codes "not a history\n"

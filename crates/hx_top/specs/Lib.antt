@@ -1,4 +1,5 @@
 pub mod Exits
+pub mod Histories
 pub mod Asking
 pub mod Words
 pub mod Whole

@@ -13,6 +13,7 @@ use Rattle.hx_script.specs.declared.script.Step.{Step}
 use Rattle.hx_script.specs.declared.trace.Trace.{Trace}
 use Rattle.hx_script.specs.declared.why.Why.{Why}
 use Rattle.hx_script.specs.Follows.{AtAnOpening, AtTheEnd, FollowsTo, ForMemory}
+use Rattle.hx_history_script.specs.Scripts.{history_script_in}
 use Rattle.hx_script.specs.Made.{made_script}
 use Rattle.hx_script.specs.Readings.{Reading, Reads, Refused}
 use Rattle.hx_script.specs.Scripts.{script_in}
@@ -22,9 +23,9 @@ use Rattle.hx_play.specs.Played.{ArePlayed}
 use Rattle.hx_play.specs.declared.playing.Halt.{Halt}
 use Rattle.hx_play.specs.declared.playing.Halt.TheVariants.{Done as ToTheEnd, OpenFault as ToAnOpening, NoMemory as ToWantOfMemory}
 use Rattle.hx_top.specs.declared.whole.End.{End}
-use Rattle.hx_top.specs.declared.whole.End.TheVariants.{Done, Usage, BadScript, ReadFault, WriteFault, NoMemory, OpenFault}
+use Rattle.hx_top.specs.declared.whole.End.TheVariants.{Done, Usage, BadScript, ReadFault, WriteFault, NoMemory, OpenFault, NotHistory}
 use Rattle.hx_top.specs.declared.words.Order.{Order}
-use Rattle.hx_top.specs.declared.words.Order.TheVariants.{Check, Play}
+use Rattle.hx_top.specs.declared.words.Order.TheVariants.{Check, History, Play}
 use Rattle.hx_top.specs.declared.words.Task.{Task}
 use Rattle.hx_top.specs.declared.words.Task.TheVariants.{Replay, Restore, Made, Exit}
 use Rattle.hx_top.specs.Asking.{exit_text}
@@ -62,6 +63,7 @@ judged_text (Refused line why) = []
 abbrev pub reads_source : Option Order → Bool
 reads_source None = false
 reads_source (Some Check) = true
+reads_source (Some History) = true
 reads_source (Some (Play (Replay guarded))) = true
 reads_source (Some (Play Restore)) = true
 reads_source (Some (Play (Exit order))) = true
@@ -71,6 +73,7 @@ reads_source (Some (Play (Made n))) = false
 abbrev pub limit : Option Order → ℕ
 limit None = 0
 limit (Some Check) = 67108864
+limit (Some History) = 4194304
 limit (Some (Play task)) = 4194304
 
 -- the first bad line of what was read, with its reason
@@ -81,12 +84,14 @@ refusal_of (Refused line why) = Some (line, why)
 abbrev pub refusal : Option Order → List ℕ → Option (ℕ × Why)
 refusal None input = None
 refusal (Some Check) input = refusal_of (trace_in input)
+refusal (Some History) input = refusal_of (history_script_in input)
 refusal (Some (Play task)) input = refusal_of (script_of task input)
 
--- what is printed at the end, by what was read and by the lives, the oldest first
+-- what is printed at the end, by what was read and by the lives, the oldest first; a local history has none, and has a text of its own
 abbrev pub printed : Option Order → List ℕ → List Life → List ℕ
 printed None input lives = []
 printed (Some Check) input lives = judged_text (trace_in input)
+printed (Some History) input lives = []
 printed (Some (Play task)) input lives = text_of task lives
 
 -- Which lives the steps have made, by how the run ended. The lives are read newest first, the steps oldest first.
@@ -147,6 +152,7 @@ IsOfPlay end = ⊥
 abbrev pub IsOfCheck : End → Type 0
 IsOfCheck Usage = ⊥
 IsOfCheck OpenFault = ⊥
+IsOfCheck NotHistory = ⊥
 IsOfCheck end = Unit {0}
 
 -- the ends of printing
@@ -167,9 +173,24 @@ abbrev pub IsOfInput : End → Type 0
 IsOfInput Done = Unit {0}
 IsOfInput WriteFault = Unit {0}
 IsOfInput OpenFault = Unit {0}
+IsOfInput NotHistory = Unit {0}
 IsOfInput end = ⊥
 
--- the ends of a run to which nothing was refused and in which no fault came
+-- the ends of playing a local history
+abbrev pub IsOfHistory : End → Type 0
+IsOfHistory Usage = ⊥
+IsOfHistory (BadScript line why) = ⊥
+IsOfHistory ReadFault = ⊥
+IsOfHistory end = Unit {0}
+
+-- The ends of a run to which nothing was refused and in which no fault came. What stands in a vault need not be a history.
+abbrev pub IsCompleted : End → Option Order → Type 0
+IsCompleted Done order = Unit {0}
+IsCompleted NoMemory order = Unit {0}
+IsCompleted NotHistory (Some History) = Unit {0}
+IsCompleted end order = ⊥
+
+-- the ends of a run of windows to which nothing was refused and in which no fault came
 abbrev pub IsDoneOrNoMemory : End → Type 0
 IsDoneOrNoMemory Done = Unit {0}
 IsDoneOrNoMemory NoMemory = Unit {0}

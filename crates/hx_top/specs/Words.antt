@@ -9,7 +9,7 @@ use Rattle.hx_top.specs.declared.words.Task.TheVariants.{Replay, Restore, Made, 
 use Rattle.hx_top.specs.declared.words.DiskChoice.{DiskChoice}
 use Rattle.hx_top.specs.declared.words.DiskChoice.TheVariants.{Memory, Store}
 use Rattle.hx_top.specs.declared.words.Order.{Order}
-use Rattle.hx_top.specs.declared.words.Order.TheVariants.{Check, Play}
+use Rattle.hx_top.specs.declared.words.Order.TheVariants.{Check, History, Play}
 use Rattle.hx_top.specs.declared.words.RunOrder.{RunOrder}
 use Rattle.hx_top.specs.declared.exits.ExitOrder.{ExitOrder}
 use Rattle.hx_top.specs.Exits.{exit_of}
@@ -92,6 +92,7 @@ plain_order word =
     if bytes_eq word (codes "replay") then Some (Play (Replay false))
     else if bytes_eq word (codes "restore") then Some (Play Restore)
     else if bytes_eq word (codes "check") then Some Check
+    else if bytes_eq word (codes "history") then Some History
     else None
 
 -- `made` with a number, and `replay` in guarded lives
@@ -105,7 +106,7 @@ abbrev pub exit_order : Option ExitOrder → Option Order
 exit_order None = None
 exit_order (Some order) = Some (Play (Exit order))
 
--- `replay`, `restore`, `check`, `made` with a number, `replay --guarded`, and `exit` with its words; nothing follows
+-- `replay`, `restore`, `check`, `history`, `made` with a number, `replay --guarded`, and `exit` with its words; nothing follows
 abbrev pub order_of : List (List ℕ) → Option Order
 order_of [] = None
 order_of (word ∷ []) = plain_order word

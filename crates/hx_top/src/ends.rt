@@ -18,6 +18,7 @@ pub fn status(end: End) -> u8
         End::WriteFault => 5,
         End::NoMemory => 6,
         End::OpenFault => 7,
+        End::NotHistory => 8,
     }
 }
 

@@ -5,6 +5,7 @@
 mod asking;
 mod ends;
 mod exits;
+mod histories;
 mod printing;
 mod program;
 mod reading;

@@ -3,7 +3,9 @@
 ghost use Rattle.std.specs.Prelude.{◌≡◌, ◌≤◌, IfOk};
 ghost use Rattle.hx_faults.specs.Faults.{Rose};
 ghost use Rattle.hx_io.specs.Streams.{AddsFront, Grows, added};
+ghost use Rattle.hx_history_play.specs.declared.account.Halt.TheVariants.{Done as ToTheEnd};
 ghost use Rattle.hx_report.specs.Traces.{AreWhole};
+ghost use Rattle.hx_top.specs.Histories.{halt_of};
 ghost use Rattle.hx_top.specs.Whole.{IsOfPrint, IsSilent, text_of, verdict_text};
 
 use crate::asking::exit_text;
@@ -33,8 +35,9 @@ fn text_of(alloc: Global, task: Task, lives: &[Life]) -> Result<Vec<u8>, AllocEr
 }
 
 /// Writes the text.
-fn write_text<K: Sink>(sink: &mut K, text: &[u8]) -> End
+pub fn write_text<K: Sink>(sink: &mut K, text: &[u8]) -> End
     ensures ends { IsOfPrint result }
+    ensures played { halt_of result ≡ ToTheEnd }
     ensures done { result ≡ End.Done → added (K.taken sink.old) (K.taken sink.new) ≡ text.now }
     ensures front { result ≡ End.WriteFault → AddsFront text.now (K.taken sink.old) (K.taken sink.new) }
     ensures silent { IsSilent result → sink.new ≡ sink.old }

@@ -50,6 +50,7 @@ fn ended<D: Drop>(finished: Finished<D>) -> End
         end,
         disk: _,
         lives: _,
+        marks: _,
     } = finished;
     end
 }
@@ -70,7 +71,7 @@ fn serve_on<R: Threads + Wait + Sync, S: Source, K: Sink, D: Disk + Drop + Send>
     ensures of_input { IsOfInput result → refusal_by (run_in (texts_of words.now)) (texts_of words.now) (added (S.given source.old) (S.given source.new)) ≡ None }
     ensures taken { Grows (K.taken sink.old) (K.taken sink.new) }
     ensures silent { IsSilent result → sink.new ≡ sink.old }
-    ensures served { HasServedOn D.picked D.tells D.time D.past D.failures disk (texts_of words.now) (added (S.given source.old) (S.given source.new)) (K.taken sink.old) (K.taken sink.new) result }
+    ensures served { HasServedOn D.picked D.tells D.time D.past D.now D.failures disk (texts_of words.now) (added (S.given source.old) (S.given source.new)) (K.taken sink.old) (K.taken sink.new) result }
     ensures read_fault { result ≡ End.ReadFault → Rose (S.failures source.old) (S.failures source.new) }
     ensures write_fault { result ≡ End.WriteFault → Rose (K.failures sink.old) (K.failures sink.new) }
     ensures no_fault { result ≡ End.Done → (S.failures source.new ≡ S.failures source.old) × (K.failures sink.new ≡ K.failures sink.old) }

@@ -44,6 +44,7 @@ fn run<R: Threads + Wait + Sync, K: Sink, D: Disk + Send, G: Gate + Sync>(
     ensures played { ArePlayed D.picked D.tells (D.past result.disk) (reverse script.slots) (D.time disk) (D.failures disk) (D.time result.disk) (D.failures result.disk) (reverse result.lives.items) }
     ensures kept { IsTrue D.tells → HaveKept (D.past result.disk) (D.time result.disk) (reverse result.lives.items) }
     ensures runs { HasGoneOn D.time D.past D.failures disk result.disk }
+    ensures marks { result.marks.items ≡ [] }
     ensures done { result.end ≡ End.Done → added (K.taken sink.old) (K.taken sink.new) ≡ trace_text result.lives.items }
     ensures front { result.end ≡ End.WriteFault → AddsFront (trace_text result.lives.items) (K.taken sink.old) (K.taken sink.new) }
     ensures silent { IsSilent result.end → sink.new ≡ sink.old }
@@ -97,6 +98,7 @@ pub fn top_run<R: Threads + Wait + Sync, S: Source, K: Sink, D: Disk + Send, G: 
     ensures memory { (order : RunOrder) → run_in (texts_of words.now) ≡ Some order → result.end ≡ End.NoMemory → IsUntouched disk result.disk result.lives.items ⊎ HasBeenRun D.picked D.tells (D.past result.disk) order.guarded (added (S.given source.old) (S.given source.new)) End.NoMemory (D.time disk) (D.failures disk) (D.time result.disk) (D.failures result.disk) (reverse result.lives.items) }
     ensures kept { IsTrue D.tells → HaveKept (D.past result.disk) (D.time result.disk) (reverse result.lives.items) }
     ensures runs { HasGoneOn D.time D.past D.failures disk result.disk }
+    ensures unmarked { result.marks.items ≡ [] }
     ensures untouched { IsBeforeDisk result.end → IsUntouched disk result.disk result.lives.items }
 
     // Where the source tells what is left, it was read to its end, or what is left is refused as a whole.

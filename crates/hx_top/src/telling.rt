@@ -43,5 +43,6 @@ pub fn report<K: Sink>(errors: &mut K, end: End) -> Result<(), SinkFailed>
         End::WriteFault => write_all(errors, b"output failed\n"),
         End::NoMemory => write_all(errors, b"out of memory\n"),
         End::OpenFault => write_all(errors, b"the vault could not be opened\n"),
+        End::NotHistory => write_all(errors, b"not a history\n"),
     }
 }

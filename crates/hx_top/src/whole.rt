@@ -4,7 +4,7 @@ ghost use Rattle.std.specs.Prelude.{◌≡◌, ◌≢◌, ◌≤◌, ◌⊎◌, 
 ghost use Rattle.hx_faults.specs.Faults.{Rose};
 ghost use Rattle.hx_guarded_laws.specs.Lives.{HaveKept};
 ghost use Rattle.hx_io.specs.Streams.{AddsFront, Grows, added};
-ghost use Rattle.hx_lives.specs.Calls.{HasGoneOn};
+ghost use Rattle.hx_lives.specs.Calls.{HandsBack, HasGoneOn};
 ghost use Rattle.hx_lives.specs.Chained.{faults_of};
 ghost use Rattle.hx_play.specs.Played.{ArePlayed};
 ghost use Rattle.hx_report.specs.Traces.{AreWhole};
@@ -12,15 +12,17 @@ ghost use Rattle.hx_script.specs.Scripts.{IsWellMade};
 ghost use Rattle.hx_script.specs.Traces.{trace_in};
 ghost use Rattle.hx_script.specs.declared.why.Why.{Why};
 ghost use Rattle.hx_top.specs.Asking.{ClosesSafely};
-ghost use Rattle.hx_top.specs.Whole.{EndsAs, FollowTo, HavePlayed, IsBeforeDisk, IsDoneOrNoMemory, IsOfCheck, IsOfInput, IsOfPlay, IsSilent, IsUntouched, is_guarded, judged_text, limit, printed, reads_source, refusal, text_of};
+ghost use Rattle.hx_top.specs.Whole.{EndsAs, FollowTo, HavePlayed, IsBeforeDisk, IsCompleted, IsOfCheck, IsOfInput, IsOfPlay, IsSilent, IsUntouched, is_guarded, judged_text, limit, printed, reads_source, refusal, text_of};
 ghost use Rattle.hx_top.specs.Words.{order_in, texts_of};
-ghost use Rattle.hx_top.specs.declared.words.Order.TheVariants.{Check, Play};
+ghost use Rattle.hx_top.specs.Histories.{HasPlayedHistory};
+ghost use Rattle.hx_top.specs.declared.words.Order.TheVariants.{Check, History, Play};
 ghost use Rattle.hx_top.specs.declared.exits.ExitOrder.{ExitOrder};
 ghost use Rattle.hx_top.specs.declared.words.Task.{Task};
 ghost use Rattle.hx_top.specs.declared.words.Task.TheVariants.{Exit};
 
+use crate::histories::keep;
 use crate::printing::{print, print_verdict};
-use crate::reading::{script_for, trace_from};
+use crate::reading::{history_from, script_for, trace_from};
 use crate::words::{Order, Task, order_in};
 use hx_check::check;
 use hx_disk::Disk;
@@ -53,6 +55,9 @@ pub enum End {
 
     /// The disk failed, while slot files were planted or the vault was opened.
     OpenFault,
+
+    /// The vault holds something else than a local history.
+    NotHistory,
 }
 
 /// How a run ended, its disk, and the lives that it led, the oldest first.
@@ -60,6 +65,9 @@ pub struct Finished<D> {
     pub end: End,
     pub disk: D,
     pub lives: Vec<Life>,
+
+    /// Of a local history, which has no lives: the disk's count of faults behind each opening and each save, in order.
+    pub marks: Vec<u64>,
 }
 
 /// An end before the first device call.
@@ -67,11 +75,13 @@ pub fn stopped<D>(alloc: Global, end: End, disk: D) -> Finished<D>
     ensures end { result.end ≡ end }
     ensures disk { result.disk ≡ disk }
     ensures lives { result.lives.items ≡ [] }
+    ensures marks { result.marks.items ≡ [] }
 {
     Finished {
         end,
         disk,
         lives: Vec::new(alloc),
+        marks: Vec::new(alloc),
     }
 }
 
@@ -124,6 +134,7 @@ fn play<K: Sink, D: Disk>(
     ensures kept { IsTrue D.tells → HaveKept (D.past result.disk) (D.time result.disk) (reverse result.lives.items) }
     ensures closes { (order : ExitOrder) → task ≡ Task.Exit order → IsTrue D.tells → result.end ≡ End.Done → ClosesSafely order (D.past result.disk) (D.time result.disk) (reverse result.lives.items) }
     ensures runs { HasGoneOn D.time D.past D.failures disk result.disk }
+    ensures marks { result.marks.items ≡ [] }
     ensures done { result.end ≡ End.Done → added (K.taken sink.old) (K.taken sink.new) ≡ text_of task result.lives.items }
     ensures front { result.end ≡ End.WriteFault → AddsFront (text_of task result.lives.items) (K.taken sink.old) (K.taken sink.new) }
     ensures silent { IsSilent result.end → sink.new ≡ sink.old }
@@ -148,6 +159,7 @@ pub fn print_played<K: Sink, D: Disk>(
     ensures ends { EndsAs played.halt result.end }
     ensures lives { reverse result.lives.items ≡ played.lives.lives }
     ensures disk { result.disk ≡ played.disk }
+    ensures marks { result.marks.items ≡ [] }
     ensures done { result.end ≡ End.Done → added (K.taken sink.old) (K.taken sink.new) ≡ text_of task result.lives.items }
     ensures front { result.end ≡ End.WriteFault → AddsFront (text_of task result.lives.items) (K.taken sink.old) (K.taken sink.new) }
     ensures silent { IsSilent result.end → sink.new ≡ sink.old }
@@ -158,20 +170,28 @@ pub fn print_played<K: Sink, D: Disk>(
 {
     let Played { halt, disk, lives } = played;
     let lives = lives.into_vec();
+    let marks = Vec::new(alloc);
     match halt {
         Halt::Done => {
             let end = print(alloc, task, sink, &lives);
-            Finished { end, disk, lives }
+            Finished {
+                end,
+                disk,
+                lives,
+                marks,
+            }
         }
         Halt::OpenFault => Finished {
             end: End::OpenFault,
             disk,
             lives,
+            marks,
         },
         Halt::NoMemory => Finished {
             end: End::NoMemory,
             disk,
             lives,
+            marks,
         },
     }
 }
@@ -197,8 +217,8 @@ pub fn top<S: Source, K: Sink, D: Disk>(
 
     // What was written: all of the text, or a front of it, or nothing.
     ensures taken { Grows (K.taken sink.old) (K.taken sink.new) }
-    ensures done { result.end ≡ End.Done → added (K.taken sink.old) (K.taken sink.new) ≡ printed (order_in (texts_of words.now)) (added (S.given source.old) (S.given source.new)) result.lives.items }
-    ensures front { result.end ≡ End.WriteFault → AddsFront (printed (order_in (texts_of words.now)) (added (S.given source.old) (S.given source.new)) result.lives.items) (K.taken sink.old) (K.taken sink.new) }
+    ensures done { order_in (texts_of words.now) ≢ Some History → result.end ≡ End.Done → added (K.taken sink.old) (K.taken sink.new) ≡ printed (order_in (texts_of words.now)) (added (S.given source.old) (S.given source.new)) result.lives.items }
+    ensures front { order_in (texts_of words.now) ≢ Some History → result.end ≡ End.WriteFault → AddsFront (printed (order_in (texts_of words.now)) (added (S.given source.old) (S.given source.new)) result.lives.items) (K.taken sink.old) (K.taken sink.new) }
     ensures silent { IsSilent result.end → sink.new ≡ sink.old }
 
     // Which lives there are, what holds of them and of the disk before and behind them, and whatever a crash leaves: the disk that
@@ -208,9 +228,19 @@ pub fn top<S: Source, K: Sink, D: Disk>(
     ensures memory { (task : Task) → order_in (texts_of words.now) ≡ Some (Play task) → result.end ≡ End.NoMemory → IsUntouched disk result.disk result.lives.items ⊎ HavePlayed D.picked D.tells (D.past result.disk) task (added (S.given source.old) (S.given source.new)) End.NoMemory (D.time disk) (D.failures disk) (D.time result.disk) (D.failures result.disk) (reverse result.lives.items) }
     ensures kept { IsTrue D.tells → HaveKept (D.past result.disk) (D.time result.disk) (reverse result.lives.items) }
     ensures closes { (order : ExitOrder) → order_in (texts_of words.now) ≡ Some (Play (Exit order)) → IsTrue D.tells → result.end ≡ End.Done → ClosesSafely order (D.past result.disk) (D.time result.disk) (reverse result.lives.items) }
-    ensures runs { HasGoneOn D.time D.past D.failures disk result.disk }
+    ensures runs { order_in (texts_of words.now) ≢ Some History → HasGoneOn D.time D.past D.failures disk result.disk }
+    ensures runs_told { IsTrue D.tells → HasGoneOn D.time D.past D.failures disk result.disk }
     ensures judged { order_in (texts_of words.now) ≡ Some Check → IsUntouched disk result.disk result.lives.items }
     ensures untouched { IsBeforeDisk result.end → IsUntouched disk result.disk result.lives.items }
+
+    // What a local history has kept of the source's saves, whatever a crash leaves, what was written of it, and what its marks say of the
+    // disk's faults. A vault that was empty at first is a history at each opening.
+    ensures history { order_in (texts_of words.now) ≡ Some History → IsOfInput result.end → HasPlayedHistory D.tells (D.failures disk) (D.failures result.disk) (D.now disk) (D.now result.disk) (added (S.given source.old) (S.given source.new)) (K.taken sink.old) (K.taken sink.new) result.end result.marks.items }
+    ensures history_memory { order_in (texts_of words.now) ≡ Some History → result.end ≡ End.NoMemory → (IsUntouched disk result.disk result.lives.items × (result.marks.items ≡ [])) ⊎ HasPlayedHistory D.tells (D.failures disk) (D.failures result.disk) (D.now disk) (D.now result.disk) (added (S.given source.old) (S.given source.new)) (K.taken sink.old) (K.taken sink.new) End.NoMemory result.marks.items }
+    ensures not_history { result.end ≡ End.NotHistory → order_in (texts_of words.now) ≡ Some History }
+    ensures foreign { result.end ≡ End.NotHistory → result.marks.items ≡ [] → HandsBack D.tells D.time D.past D.failures disk result.disk }
+    ensures no_lives { order_in (texts_of words.now) ≡ Some History → result.lives.items ≡ [] }
+    ensures unmarked { order_in (texts_of words.now) ≢ Some History → result.marks.items ≡ [] }
 
     // Where the source tells what is left, it was read to its end, or what is left is refused as a whole.
     ensures read_to_end { IsTrue S.tells → IsOfInput result.end → reads_source (order_in (texts_of words.now)) ≡ true → (added (S.given source.old) (S.given source.new) ≡ S.left source.old) × (S.left source.new ≡ []) }
@@ -222,8 +252,8 @@ pub fn top<S: Source, K: Sink, D: Disk>(
     ensures open_fault { result.end ≡ End.OpenFault → Rose (faults_of (D.failures disk) (reverse result.lives.items)) (D.failures result.disk) }
     ensures no_fault { result.end ≡ End.Done → (S.failures source.new ≡ S.failures source.old) × (K.failures sink.new ≡ K.failures sink.old) }
     ensures never_by_check { order_in (texts_of words.now) ≡ Some Check → result.end ≢ End.OpenFault }
-    ensures complete { order_in (texts_of words.now) ≢ None → refusal (order_in (texts_of words.now)) (added (S.given source.old) (S.given source.new)) ≡ None → (Rose (S.failures source.old) (S.failures source.new) → ⊥) → (Rose (K.failures sink.old) (K.failures sink.new) → ⊥) → (Rose (faults_of (D.failures disk) (reverse result.lives.items)) (D.failures result.disk) → ⊥) → IsDoneOrNoMemory result.end }
-    ensures complete_told { IsTrue S.tells → order_in (texts_of words.now) ≢ None → refusal (order_in (texts_of words.now)) (S.left source.old) ≡ None → (Rose (S.failures source.old) (S.failures source.new) → ⊥) → (Rose (K.failures sink.old) (K.failures sink.new) → ⊥) → (Rose (faults_of (D.failures disk) (reverse result.lives.items)) (D.failures result.disk) → ⊥) → IsDoneOrNoMemory result.end }
+    ensures complete { order_in (texts_of words.now) ≢ None → refusal (order_in (texts_of words.now)) (added (S.given source.old) (S.given source.new)) ≡ None → (Rose (S.failures source.old) (S.failures source.new) → ⊥) → (Rose (K.failures sink.old) (K.failures sink.new) → ⊥) → (Rose (faults_of (D.failures disk) (reverse result.lives.items)) (D.failures result.disk) → ⊥) → IsCompleted result.end (order_in (texts_of words.now)) }
+    ensures complete_told { IsTrue S.tells → order_in (texts_of words.now) ≢ None → refusal (order_in (texts_of words.now)) (S.left source.old) ≡ None → (Rose (S.failures source.old) (S.failures source.new) → ⊥) → (Rose (K.failures sink.old) (K.failures sink.new) → ⊥) → (Rose (faults_of (D.failures disk) (reverse result.lives.items)) (D.failures result.disk) → ⊥) → IsCompleted result.end (order_in (texts_of words.now)) }
 {
     match order_in(words) {
         None => stopped(alloc, End::Usage, disk),
@@ -231,6 +261,10 @@ pub fn top<S: Source, K: Sink, D: Disk>(
             let end = judge(alloc, source, sink);
             stopped(alloc, end, disk)
         }
+        Some(Order::History) => match history_from(alloc, source) {
+            Ok(lines) => keep(alloc, lines, sink, disk),
+            Err(end) => stopped(alloc, end, disk),
+        },
         Some(Order::Play(task)) => match script_for(alloc, task, source) {
             Ok(script) => play(alloc, task, script, sink, disk),
             Err(end) => stopped(alloc, end, disk),

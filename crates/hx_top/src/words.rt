@@ -49,6 +49,9 @@ pub enum Order {
     /// The source's trace is judged.
     Check,
 
+    /// The source's saves are kept as a local history, which is printed.
+    History,
+
     Play(Task),
 }
 
@@ -113,6 +116,8 @@ fn plain_order(word: &[u8]) -> Option<Order>
         Some(Order::Play(Task::Restore))
     } else if word == b"check".as_slice() {
         Some(Order::Check)
+    } else if word == b"history".as_slice() {
+        Some(Order::History)
     } else {
         None
     }

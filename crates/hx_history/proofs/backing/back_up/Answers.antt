@@ -1,4 +1,4 @@
-use Rattle.std.proofs.Common.{rules, ◌≡◌, ◌+◌, ◌++◌, ℕ, List, [], ◌∷◌, Some, length, drop, sym, ◌∙◌, ap, subst, arith}
+use Rattle.std.proofs.Common.{◌≡◌, ◌+◌, ◌++◌, ℕ, List, [], ◌∷◌, Some, length, drop, sym, ◌∙◌, ap, subst, arith}
 use Rattle.std.proofs.lemmas.List.{length-drop}
 use Rattle.hx_vault.specs.Sides.{IsFrame}
 use Rattle.hx_vault.specs.Vaults.{pair_at, place_of, put_length}
@@ -60,8 +60,8 @@ put_blocks-requires-clause-small g c =
     let first : place_of (pair_at c.close_away.new.vault c.args.pair) ≡ 0 = ap put_length c.in_ok-close_away.ensures.begun in
     let at : place_of (pair_at c.put_block.new.vault c.args.pair) ≡ place_of (pair_at c.close_away.new.vault c.args.pair) + length c.deref.result.now = ap put_length c.in_ok-put_block.ensures.placed in
     let long : length c.deref.result.now ≡ length c.in_ok-first.first.items = ap (λ (l : List ℕ). length l) c.deref.ensures.value in
-    let rest : c.behind.result.now ≡ drop 4096 c.args.content.now = search rules in
-    let less : length c.behind.result.now ≡ length (drop 4096 c.args.content.now) = ap (λ (l : List ℕ). length l) {y = drop 4096 c.args.content.now} rest in
+    let rest : c.behind_first.result.now ≡ drop 4096 c.args.content.now = c.behind_first.ensures in
+    let less : length c.behind_first.result.now ≡ length (drop 4096 c.args.content.now) = ap (λ (l : List ℕ). length l) {y = drop 4096 c.args.content.now} rest in
     omega (arith, first, at, long, less, length-drop 4096 c.args.content.now, c.in_ok-first.ensures.short, c.requires.small)
 
 pub put_blocks-requires-clause-side : goal.put_blocks-requires-clause-side
@@ -94,9 +94,9 @@ returns-clause-run g c = λ told was owns.
     let first = c.in_ok-put_block.ensures.ready told r was [] begun in
     let put = c.in_ok-put_blocks.ensures.ready told r was c.deref.result.now first in
     let f = c.in_ok-first.ensures.frame in
-    let rest : c.behind.result.now ≡ drop 4096 c.args.content.now = search rules in
-    let whole : c.deref.result.now ++ c.behind.result.now ≡ c.in_ok-first.first.items ++ drop 4096 c.args.content.now =
-    ap (λ (l : List ℕ). l ++ c.behind.result.now) c.deref.ensures.value ∙ ap (λ (l : List ℕ). c.in_ok-first.first.items ++ l) {y = drop 4096 c.args.content.now} rest in
+    let rest : c.behind_first.result.now ≡ drop 4096 c.args.content.now = c.behind_first.ensures in
+    let whole : c.deref.result.now ++ c.behind_first.result.now ≡ c.in_ok-first.first.items ++ drop 4096 c.args.content.now =
+    ap (λ (l : List ℕ). l ++ c.behind_first.result.now) c.deref.ensures.value ∙ ap (λ (l : List ℕ). c.in_ok-first.first.items ++ l) {y = drop 4096 c.args.content.now} rest in
     run_joined g.D.Disk.time g.D.Disk.past g.D.Disk.now g.met.D.Disk.present c.args.pair (IsPairFine r (was ∷ Some (taken_of e) ∷ []) c.args.pair) c.args.disk.now c.put_blocks.new.disk c.open_away.new.disk
     (run_sooner g.D.Disk.time g.D.Disk.past g.D.Disk.now g.met.D.Disk.present r was (taken_of e) c.args.pair c.args.disk.now c.put_blocks.new.disk
     (run_joined g.D.Disk.time g.D.Disk.past g.D.Disk.now g.met.D.Disk.present c.args.pair _ c.args.disk.now c.put_block.new.disk c.put_blocks.new.disk
@@ -112,9 +112,9 @@ returns-clause-done g c = λ told was owns.
     let first = c.in_ok-put_block.ensures.ready told r was [] (c.in_ok-close_away.ensures.ready told r was owns) in
     let put = c.in_ok-put_blocks.ensures.ready told r was c.deref.result.now first in
     let f = c.in_ok-first.ensures.frame in
-    let rest : c.behind.result.now ≡ drop 4096 c.args.content.now = search rules in
-    let whole : c.deref.result.now ++ c.behind.result.now ≡ c.in_ok-first.first.items ++ drop 4096 c.args.content.now =
-    ap (λ (l : List ℕ). l ++ c.behind.result.now) c.deref.ensures.value ∙ ap (λ (l : List ℕ). c.in_ok-first.first.items ++ l) {y = drop 4096 c.args.content.now} rest in
+    let rest : c.behind_first.result.now ≡ drop 4096 c.args.content.now = c.behind_first.ensures in
+    let whole : c.deref.result.now ++ c.behind_first.result.now ≡ c.in_ok-first.first.items ++ drop 4096 c.args.content.now =
+    ap (λ (l : List ℕ). l ++ c.behind_first.result.now) c.deref.ensures.value ∙ ap (λ (l : List ℕ). c.in_ok-first.first.items ++ l) {y = drop 4096 c.args.content.now} rest in
     c.open_away.ensures.done told r was _ f.frame (taken_of e) put (subst (λ (l : List ℕ). IsFrame l f.frame) (sym whole) f.whole) f.reads
     (f.stamped ∙ ap (λ n. n + 1) c.stamp.ensures ∙ sym c.in_ok-close_away.ensures.stamped ∙ sym c.put_block.ensures.stamp ∙ sym c.put_blocks.ensures.stamp)
 
@@ -138,9 +138,9 @@ returns-clause-stamps g c = λ told own stamped.
     let first = c.in_ok-put_block.ensures.ready told r h.0 [] (c.in_ok-close_away.ensures.ready told r h.0 h.1) in
     let put = c.in_ok-put_blocks.ensures.ready told r h.0 c.deref.result.now first in
     let f = c.in_ok-first.ensures.frame in
-    let rest : c.behind.result.now ≡ drop 4096 c.args.content.now = search rules in
-    let whole : c.deref.result.now ++ c.behind.result.now ≡ c.in_ok-first.first.items ++ drop 4096 c.args.content.now =
-    ap (λ (l : List ℕ). l ++ c.behind.result.now) c.deref.ensures.value ∙ ap (λ (l : List ℕ). c.in_ok-first.first.items ++ l) {y = drop 4096 c.args.content.now} rest in
+    let rest : c.behind_first.result.now ≡ drop 4096 c.args.content.now = c.behind_first.ensures in
+    let whole : c.deref.result.now ++ c.behind_first.result.now ≡ c.in_ok-first.first.items ++ drop 4096 c.args.content.now =
+    ap (λ (l : List ℕ). l ++ c.behind_first.result.now) c.deref.ensures.value ∙ ap (λ (l : List ℕ). c.in_ok-first.first.items ++ l) {y = drop 4096 c.args.content.now} rest in
     let given : f.frame.stamp ≡ c.args.vault.now.stamp + 1 = f.stamped ∙ ap (λ n. n + 1) c.stamp.ensures in
     let counter : f.frame.stamp ≡ c.put_blocks.new.vault.stamp = given ∙ sym c.in_ok-close_away.ensures.stamped ∙ sym c.put_block.ensures.stamp ∙ sym c.put_blocks.ensures.stamp in
     c.open_away.ensures.stamps told own r h.0 _ f.frame put (subst (λ (l : List ℕ). IsFrame l f.frame) (sym whole) f.whole) (omega (arith, counter))

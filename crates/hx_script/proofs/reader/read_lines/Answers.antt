@@ -1,7 +1,7 @@
 use Rattle.std.proofs.Common.{arith, ◌<◌, ◌+◌, ◌≤◌, length, ◌∙◌, sym}
 use Rattle.std.proofs.lemmas.Bool.Decides.{nat_tests}
 use Rattle.hx_script.specs.Scripts.{line_in, script_at_end}
-use Rattle.hx_script.proofs.LineSteps.{line_taken, line_refused, line_unended, told, told_at, taken}
+use Rattle.hx_script.specs.LineLaws.{line_taken, line_refused, line_unended, told, told_at, taken}
 use Rattle.hx_script.proofs.ScriptSteps.{line_is}
 use Rattle.hx_script.proofs.reader.read_lines.Goals as goal
 

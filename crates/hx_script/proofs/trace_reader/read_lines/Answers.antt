@@ -1,7 +1,7 @@
 use Rattle.std.proofs.Common.{arith, ◌≡◌, ◌<◌, ◌+◌, ◌≤◌, length, ◌∙◌, sym}
 use Rattle.std.proofs.lemmas.Bool.Decides.{nat_tests}
 use Rattle.hx_script.specs.Traces.{trace_line, trace_at_end}
-use Rattle.hx_script.proofs.LineSteps.{line_taken, line_refused, line_unended, lines_ended, told, told_at, taken}
+use Rattle.hx_script.specs.LineLaws.{line_taken, line_refused, line_unended, lines_ended, told, told_at, taken}
 use Rattle.hx_script.proofs.trace_reader.read_lines.Goals as goal
 
 pub returns-in_default-clause-bad : goal.returns-in_default-clause-bad

@@ -1,10 +1,17 @@
-use Rattle.std.proofs.Common.{rules, ◌≡◌, ◌<◌, ◌-◌, ◌^◌, refl}
+use Rattle.std.proofs.Common.{rules, ◌≡◌, ◌<◌, ◌-◌, ◌^◌, Bool, true, false, ap, refl}
+use Rattle.std.proofs.lemmas.Bool.{false≢true}
+use Rattle.hx_history.specs.declared.history.Added.{Added}
+use Rattle.hx_history.specs.declared.history.Added.TheVariants.{Refused}
 use Rattle.hx_history_laws.specs.Saves.{left_none_above, left_histories, seen_still}
 use Rattle.hx_history_laws.specs.Stamps.{since_then}
 use Rattle.hx_history.proofs.history.History.add.Goals as goal
 
+abbrev is_refused : {D : Type 0} → Added D → Bool
+is_refused (Refused h why) = true
+is_refused _ = false
+
 pub returns-in-Err-Fault-clause-refused : goal.returns-in-Err-Fault-clause-refused
-returns-in-Err-Fault-clause-refused g c = λ h why is. absurd cc
+returns-in-Err-Fault-clause-refused g c = λ h why is. absurd (false≢true (ap is_refused is))
 
 pub returns-then-content-gt-CONTENT_MAX-clause-is_too_large : goal.returns-then-content-gt-CONTENT_MAX-clause-is_too_large
 returns-then-content-gt-CONTENT_MAX-clause-is_too_large g c = λ large. (_, refl)

@@ -8,4 +8,4 @@ returns-then-count-le-ENTRIES_KEPT-clause-moments g c = λ told.
     entries_still g.D.Disk.time g.D.Disk.past g.D.Disk.now g.met.D.Disk.present s.entries.items s.places.items s.vault s.disk c.requires.orderly (c.requires.kept told)
 
 pub empty_first-requires-clause-full : goal.empty_first-requires-clause-full
-empty_first-requires-clause-full g c = let few = c.requires.orderly.placed.few in omega (arith, few, c.if-count-le-ENTRIES_KEPT.false, c.len-count.ensures)
+empty_first-requires-clause-full g c = let few = c.requires.orderly.placed.few in omega (arith, few)

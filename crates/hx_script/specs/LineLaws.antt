@@ -1,6 +1,11 @@
--- What the lines that are left read as, one line at a time.
-use Rattle.std.proofs.Common.{◌≡◌, ◌<◌, ℕ, ◌+◌, List, [], ◌∷◌, length, Some, None, Result, Ok, Err, subst, refl, sym, ◌∙◌, ap, arith}
-use Rattle.std.proofs.lemmas.List.Splits.{length-slice_split}
+-- Laws of bytes that are read line by line, and of lines that are read by their first fields. Each reader cites them.
+use Rattle.std.proofs.Common.{◌≡◌, ◌≤◌, ◌<◌, ℕ, ◌+◌, Bool, true, false, not, nat_lt, if◌then◌else◌, List, [], ◌∷◌, length, take, Some, None, Result, Ok, Err, subst, refl, sym, ◌∙◌, ap, arith}
+use Rattle.std.specs.Borrow.{Bor}
+use Rattle.std.specs.List.{slice_split, position_or_len, before_first, after_first, onto_first as onto_first_part}
+use Rattle.std.proofs.lemmas.Bool.Decides.{nat_tests}
+use Rattle.std.proofs.lemmas.List.Splits.{length-slice_split, slice_split_first, slice_split-cons_no}
+use Rattle.std.proofs.lemmas.List.Sums.{prefix_len-le-length}
+use Rattle.hx_events.specs.Fields.{fields_of}
 use Rattle.hx_script.specs.declared.why.Why.{Why}
 use Rattle.hx_script.specs.declared.why.Why.TheVariants.{NoEnd}
 use Rattle.hx_script.specs.declared.why.LineError.{LineError}
@@ -8,8 +13,41 @@ use Rattle.hx_script.specs.declared.why.LineError.TheVariants.{Bad, NoMemory}
 use Rattle.hx_script.specs.declared.why.ScriptError.{ScriptError}
 use Rattle.hx_script.specs.declared.why.ScriptError.TheVariants.{Bad as BadAt}
 use Rattle.hx_script.specs.Readings.{Reading, Refused, Takes, error_at}
-use Rattle.hx_script.specs.Lines.{is_byte, cut_at, parts_of, lines_from, lines_over}
-use Rattle.hx_script.proofs.Cuts.{split_some, split_none}
+use Rattle.hx_script.specs.Lines.{is_byte, cut_at, texts, parts_of, lines_from, lines_over}
+
+-- what a cut says of the parts round all such bytes
+no_test : {A : Type 0} (b : Bool) (x : A) → (if b then Some x else None) ≡ None → b ≡ false
+no_test true x none = absurd cc
+no_test false x none = refl
+
+not_below : (n m : ℕ) → n ≤ m → nat_lt n m ≡ false → n ≡ m
+not_below n m le past = grind (arith, nat_tests)
+
+split_whole : (wanted : ℕ) (bytes : List ℕ) → position_or_len (is_byte wanted) bytes ≡ length bytes → slice_split (is_byte wanted) bytes ≡ bytes ∷ []
+split_whole wanted [] none = refl
+split_whole wanted (b ∷ rest) none = by_byte (is_byte wanted b) refl none (split_whole wanted rest)
+  where
+    by_byte : (t : Bool) → is_byte wanted b ≡ t → position_or_len (is_byte wanted) (b ∷ rest) ≡ length (b ∷ rest) → (position_or_len (is_byte wanted) rest ≡ length rest → slice_split (is_byte wanted) rest ≡ rest ∷ [])
+        → slice_split (is_byte wanted) (b ∷ rest) ≡ (b ∷ rest) ∷ []
+    by_byte true ends none others = absurd (omega (arith, rw ends at none))
+    by_byte false goes_on none others = slice_split-cons_no (is_byte wanted) b rest goes_on ∙ ap (onto_first_part b) (others (omega (arith, rw goes_on at none)))
+
+pub split_none : (wanted : ℕ) (bytes : List ℕ) → cut_at wanted bytes ≡ None → slice_split (is_byte wanted) bytes ≡ bytes ∷ []
+split_none wanted bytes none =
+    split_whole wanted bytes (not_below (position_or_len (is_byte wanted) bytes) (length bytes) (prefix_len-le-length (λ x. not (is_byte wanted x)) bytes) (no_test (nat_lt (position_or_len (is_byte wanted) bytes) (length bytes)) (before_first (is_byte wanted) bytes, after_first (is_byte wanted) bytes) none))
+
+some_parts : (b : Bool) (x y : List ℕ × List ℕ) → (if b then Some x else None) ≡ Some y → (b ≡ true) × (x ≡ y)
+some_parts true x y e = (refl, cc)
+some_parts false x y e = absurd cc
+
+lt_from : (a b : ℕ) → nat_lt a b ≡ true → a < b
+lt_from a b t = grind (arith, nat_tests)
+
+pub split_some : (wanted : ℕ) (bytes front behind : List ℕ) → cut_at wanted bytes ≡ Some (front, behind) → slice_split (is_byte wanted) bytes ≡ front ∷ slice_split (is_byte wanted) behind
+split_some wanted bytes front behind cut =
+    let parts = some_parts (nat_lt (position_or_len (is_byte wanted) bytes) (length bytes)) (before_first (is_byte wanted) bytes, after_first (is_byte wanted) bytes) (front, behind) cut in
+    slice_split_first (is_byte wanted) bytes 0 (lt_from _ _ parts.0)
+    ∙ ap (λ (p : List ℕ × List ℕ). p.0 ∷ slice_split (is_byte wanted) p.1) parts.1
 
 module _ {S A : Type 0} (line_in : ℕ → S → List ℕ → Result S Why) (end_at : ℕ → S → Reading A) where
   -- a first part before others
@@ -75,3 +113,10 @@ told_at result e told_error n line why new read r is at same took refused =
 
 pub taken : {S : Type 0} (result : Result Unit LineError) (done : Unit) (new : S) (read : Result S Why) → result ≡ Ok done → Takes result new read → read ≡ Ok new
 taken result done new read is took = subst (λ x. Takes x new read) is took
+
+-- Where so many fields say what all of them do, the first fields of a line say what the line does.
+pub fields_say : {R : Type 0} (say : List (List ℕ) → R) (most : ℕ) (line : List ℕ) (fields items : List (Bor (List ℕ))) → ((all : List (List ℕ)) → say (take most all) ≡ say all) → fields ≡ items → texts items ≡ take most (fields_of line)
+    → say (texts fields) ≡ say (fields_of line)
+fields_say say most line fields items enough same parted =
+    ap (λ (fs : List (Bor (List ℕ))). say (texts fs)) same
+    ∙ ap say parted ∙ enough (fields_of line)
