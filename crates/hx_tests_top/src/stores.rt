@@ -137,14 +137,26 @@ fn a_history_in_a_folder_goes_on(rt: HostRuntime) -> Result<(), Fail> {
     let alloc = rt.alloc();
     empty_folder(&rt, "versions")?;
     let ran = run(&rt, alloc, "--store versions history", SAVES.as_bytes())?;
-    ends_so(&rt, &ran, 0, "kept 1\nkept 2\nentry 1 0 =a\nentry 2 20000 =b\n", "");
+    ends_so(
+        &rt,
+        &ran,
+        0,
+        "kept 1\nkept 2\nentry 1 0 =a\nentry 2 20000 =b\n",
+        "",
+    );
     let ran = run(
         &rt,
         alloc,
         "--store versions history",
         b"hotexit history 1\nsaved 20001 =c\n",
     )?;
-    ends_so(&rt, &ran, 0, "merged 2\nentry 1 0 =a\nentry 2 20001 =c\n", "");
+    ends_so(
+        &rt,
+        &ran,
+        0,
+        "merged 2\nentry 1 0 =a\nentry 2 20001 =c\n",
+        "",
+    );
     Ok(fs::remove_dir_all(&rt, "versions")?)
 }
 
